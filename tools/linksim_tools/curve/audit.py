@@ -4,6 +4,7 @@ from __future__ import annotations
 
 import contextlib
 import dataclasses
+import itertools
 import random
 import typing
 
@@ -55,12 +56,13 @@ def audit(call: Call, engine: Engine, lines: list[Line], share: float, seed: int
     shares = batches([(line.p, line.chunk) for line in drawn.values()], Costs(), engine.least, engine.most())
     differ = 0
     with contextlib.closing(engine):
-        for text in engine.lines(call, shares):
+        for text in itertools.chain(engine.recovered(call), engine.lines(call, shares)):
             line = line_from(text)
-            if line and dataclasses.replace(line, source=lines[0].source) != drawn[line.key()]:
+            other = drawn.pop(line.key(), None) if line and line.source == call.source.text() else None
+            if line and other and dataclasses.replace(line, source=other.source) != other:
                 differ += 1
                 print(f"chunk {line.chunk} of the point {line.p} differs:")
-                print(f"- {drawn[line.key()].text()}\n+ {line.text()}")
+                print(f"- {other.text()}\n+ {line.text()}")
     print(f"{count - differ} of {count} chunks are what they were")
     return differ
 

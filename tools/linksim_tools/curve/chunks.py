@@ -5,6 +5,7 @@ from __future__ import annotations
 import contextlib
 import dataclasses
 import hashlib
+import itertools
 import pathlib
 import subprocess
 import tempfile
@@ -54,27 +55,36 @@ def link_of(setting: Setting, threshold: int, chunk: int, turn: int, k: int) -> 
     return "-", " ".join(map(str, drawn_places(seed, threshold, setting.g))) or "-"
 
 
-def sendings_of(setting: Setting, turns: list[int], after: int) -> list[tuple[int, int]]:
-    """What the schedule of these rounds has as rounds: a round's number, and how many of its transmissions. If bits are
-    flipped, a round stands there once for each number of transmissions, since its outcome is known at its end alone."""
+@dataclasses.dataclass(frozen=True)
+class Sending:
+    """A round of a schedule: its chunk by threshold and number, its own number there, and how many of its transmissions."""
+
+    threshold: int
+    chunk: int
+    turn: int
+    count: int
+
+
+def sendings_of(setting: Setting, p: float, chunk: int, turns: typing.Iterable[int], after: int) -> list[Sending]:
+    """What the schedule of these rounds, each with its first `after` transmissions, has as rounds. If bits are flipped, a round
+    stands there once for each number of transmissions, since its outcome is known at its end alone."""
     counts = [after] if setting.link == "erase" else range(1, after + 1)
-    return [(turn, count) for turn in turns for count in counts]
+    return [Sending(threshold_of(p), chunk, turn, count) for turn in turns for count in counts]
 
 
-def schedule_of(setting: Setting, p: float, chunk: int, turns: list[int], after: int) -> str:
-    """The schedule of these rounds, each with its first `after` transmissions."""
-    threshold = threshold_of(p)
+def schedule_of(setting: Setting, sendings: typing.Iterable[Sending]) -> str:
+    """The schedule of these rounds."""
     lines = [HEADER]
-    for turn, count in sendings_of(setting, turns, after):
-        for k, rv in enumerate(setting.rvs[:count]):
-            erase, flip = link_of(setting, threshold, chunk, turn, k)
+    for it in sendings:
+        for k, rv in enumerate(setting.rvs[: it.count]):
+            erase, flip = link_of(setting, it.threshold, it.chunk, it.turn, k)
             lines.append(f"1,{rv},{setting.g},{setting.qm},{setting.nl},{erase},{flip},all,0,{int(k == 0)}\n")
     return "".join(lines)
 
 
 def parts_of(setting: Setting, p: float, turns: list[int] | range, after: int) -> list[list[int]]:
     """The rounds in parts that fit into one schedule each, by its transmissions and, with places listed, its octets."""
-    turns, sent = list(turns), sum(count for _, count in sendings_of(setting, [0], after))
+    turns, sent = list(turns), sum(it.count for it in sendings_of(setting, p, 0, [0], after))
     most = MOST_TRANSMISSIONS // sent
     if not setting.is_pooled:
         mean = p * setting.g
@@ -97,15 +107,17 @@ def write_files(setting: Setting, folder: pathlib.Path | str, schedule: str) -> 
 
 
 @contextlib.contextmanager
-def lines_of(program: pathlib.Path, command: str, setting: Setting, schedule: str) -> typing.Iterator[typing.IO[bytes]]:
-    """The lines that `run` or `audit` writes for a schedule, as they come. A refusal is a failure with its own line."""
+def lines_of(
+    program: pathlib.Path, command: str, setting: Setting, schedule: str
+) -> typing.Iterator[typing.Iterator[bytes]]:
+    """The whole lines that `run` or `audit` writes for a schedule, as they come. A refusal is a failure with its own line."""
     with tempfile.TemporaryDirectory(prefix="linksim-curve-") as folder:
         words = [str(program), command, *write_files(setting, folder, schedule)]
         with open(pathlib.Path(folder) / "error", "w+b") as error:
             with subprocess.Popen(words, stdout=subprocess.PIPE, stderr=error, bufsize=BUFFER) as child:
                 assert child.stdout
                 try:
-                    yield child.stdout
+                    yield (line for line in child.stdout if line.endswith(b"\n"))
                 except BaseException:
                     child.kill()
                     raise
@@ -115,42 +127,50 @@ def lines_of(program: pathlib.Path, command: str, setting: Setting, schedule: st
                 raise Failed(said[0] if said else f"{program} ended with status {child.returncode}")
 
 
-@dataclasses.dataclass
-class Round:
-    """What `run` says of one round: after each transmission what each code block lacks, and its last line."""
-
-    left: list[list[int]]
-    end: list[str]
-
-
-def rounds_of(lines: typing.IO[bytes], sendings: list[tuple[int, int]]) -> list[Round]:
-    """The rounds of a schedule with what the lines of `run` say of them, in turn."""
-    rounds = [Round([[] for _ in range(count)], []) for _, count in sendings]
-    seats = [(found, k) for found in rounds for k in range(len(found.left))]
-    ended = iter(rounds)
+def read(
+    lines: typing.Iterable[bytes], sendings: typing.Sequence[Sending]
+) -> tuple[list[int], list[tuple[str, bytes]]]:
+    """What each code block lacks after each transmission of a schedule, in turn. Of each round its outcome, and the last word of its
+    line, which is the block if one is delivered."""
+    lacking: list[int] = []
+    ends: list[tuple[str, bytes]] = []
     for line in lines:
         if line.startswith(b"left "):
-            _, transmission, _, _, left = line.split()
-            found, k = seats[int(transmission) - 1]
-            found.left[k].append(int(left))
+            lacking.append(int(line[line.rindex(b" ") :]))
+        elif line.startswith(b"process "):
+            words = line.split()
+            ends.append((words[4].decode(errors="replace"), words[-1]))
         elif line.startswith(b"refused "):
             _, which, _, name = line.decode().split()
-            raise Failed(f"transmission {seats[int(which) - 1][1] + 1} of a round is refused: {name}")
-        elif line.startswith(b"process "):
-            next(ended).end = line.decode().split()
-    return rounds
+            numbers = [k for it in sendings for k in range(1, it.count + 1)]
+            raise Failed(f"transmission {numbers[int(which) - 1]} of a round is refused: {name}")
+    return lacking, ends
 
 
-def judge_round(setting: Setting, found: Round, block: str) -> bool:
+def judge_round(setting: Setting, left: list[int], outcome: str, is_right: bool) -> bool:
     """Whether a round failed: whether it did not end with the block that was sent. It raises Failed if the
     round's line is not what its counts say. A block with bits left is open, and over erasures every other one is
     delivered as it was sent."""
-    outcome, delivered = found.end[4], found.end[-1] == block
-    left = any(found.left[-1])
-    is_wrong = setting.link == "erase" and not left and not (outcome == "delivered" and delivered)
-    if (left and outcome != "open") or is_wrong:
+    is_wrong = setting.link == "erase" and not any(left) and not (outcome == "delivered" and is_right)
+    if (any(left) and outcome != "open") or is_wrong:
         raise Failed(f"a round ended as {outcome}, against its counts: the program is broken")
-    return outcome != "delivered" or not delivered
+    return outcome != "delivered" or not is_right
+
+
+def made(
+    setting: Setting, program: pathlib.Path, sendings: typing.Sequence[Sending]
+) -> typing.Iterator[tuple[bool, list[list[int]]]]:
+    """Of each of these rounds whether it failed, and after each transmission what each code block lacks."""
+    with lines_of(program, "run", setting, schedule_of(setting, sendings)) as lines:
+        lacking, ends = read(lines, sendings)
+    c, rest = divmod(len(lacking), sum(it.count for it in sendings))
+    if len(ends) != len(sendings) or rest or not c:
+        raise Failed("the program wrote another number of lines than its schedule wants: it is broken")
+    block, at = block_of(setting).encode(), 0
+    for it, (outcome, last) in zip(sendings, ends):
+        states = [lacking[at + k * c : at + k * c + c] for k in range(it.count)]
+        at += it.count * c
+        yield judge_round(setting, states[-1], outcome, last == block), states
 
 
 def rounds_of_chunk(
@@ -158,17 +178,12 @@ def rounds_of_chunk(
 ) -> typing.Iterator[tuple[int, list[tuple[bool, list[int]]]]]:
     """Each of these rounds of a chunk, and of it after each transmission whether it failed and what each code block
     lacks."""
-    block = block_of(setting)
     for part in parts_of(setting, p, turns, after):
-        sendings = sendings_of(setting, part, after)
-        with lines_of(program, "run", setting, schedule_of(setting, p, chunk, part, after)) as lines:
-            rounds = rounds_of(lines, sendings)
-        failed = [judge_round(setting, found, block) for found in rounds]
+        found = made(setting, program, sendings_of(setting, p, chunk, part, after))
         if setting.link == "erase":
-            yield from ((turn, [(any(left), left) for left in found.left]) for turn, found in zip(part, rounds))
+            yield from ((turn, [(any(left), left) for left in states]) for turn, (_, states) in zip(part, found))
         else:
-            states = iter(zip(failed, (found.left[-1] for found in rounds)))
-            yield from ((turn, [next(states) for _ in range(after)]) for turn in part)
+            yield from ((turn, [(failed, states[-1]) for failed, states in itertools.islice(found, after)]) for turn in part)
 
 
 def failed_rounds(setting: Setting, program: pathlib.Path, p: float, chunk: int, after: int) -> list[int]:

@@ -34,8 +34,10 @@ def do_missing(given: argparse.Namespace) -> int:
     """The chunks that are not there, and status 1 if there is any."""
     from linksim_tools.curve import audit
 
-    setting = settings.read_setting(given.missing)
-    found = audit.missing(setting, results.merged(given.files), given.points or [], given.chunks)
+    setting, lines = settings.read_setting(given.missing), results.merged(given.files)
+    if lines:
+        results.judge(setting, lines)
+    found = audit.missing(setting, lines, given.points or [], given.chunks)
     for p, chunk in found:
         print(f"{p!r},{chunk}")
     return 1 if found else 0
@@ -60,7 +62,7 @@ def do_audit(given: argparse.Namespace, setting: settings.Setting, program: path
     from linksim_tools.curve import audit, engines
 
     packages.look_for("numpy")
-    files = files_of(given, setting)
+    files = [pathlib.Path(file) for file in given.files] or [setting.path.with_suffix(".csv")]
     lines = results.merged(files)
     call = engines.Call(setting, program, source.source_of(setting, program))
     audit.judge_source(call, lines, not given.restamp)
@@ -94,11 +96,6 @@ def do_report(given: argparse.Namespace, setting: settings.Setting, program: pat
     from linksim_tools.curve import report, traced
 
     report.write(traced.curve_of(setting, program, given.files), given.html)
-
-
-def files_of(given: argparse.Namespace, setting: settings.Setting) -> list[pathlib.Path]:
-    """The files of results that are named, or the curve's own."""
-    return given.files or [setting.path.with_suffix(".csv")]
 
 
 def do_limits(given: argparse.Namespace, setting: settings.Setting, program: pathlib.Path) -> None:

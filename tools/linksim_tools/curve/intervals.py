@@ -10,11 +10,11 @@ QUANTILE = 1.959963984540054
 # What each end of an interval of 95 percent leaves out.
 TAIL = 0.025
 
-# Beyond this shape the gamma distribution's quantile is taken from the normal one (Wilson and Hilferty).
+# Beyond this shape the gamma distribution's quantile is taken from the normal one.
 LARGE = 2000.0
 
 
-def wilson(failed: int, rounds: int, quantile: float = QUANTILE) -> tuple[float, float]:
+def wilson(failed: float, rounds: int, quantile: float = QUANTILE) -> tuple[float, float]:
     """Wilson's interval for a probability of which `failed` of `rounds` tries speak."""
     share, square = failed / rounds, quantile**2
     middle = (share + square / (2 * rounds)) / (1 + square / rounds)
@@ -55,10 +55,14 @@ def continued_fraction(shape: float, value: float) -> float:
     return total
 
 
+def near_quantile(shape: float, normal: float) -> float:
+    """The gamma distribution's quantile, nearly, from the normal one's (Wilson and Hilferty)."""
+    return shape * max(0.0, 1 - 1 / (9 * shape) + normal / (3 * math.sqrt(shape))) ** 3
+
+
 def gamma_quantile(shape: float, share: float) -> float:
     """The value below which a gamma variable of scale 1 is with the probability `share`."""
-    normal = normal_quantile(share)
-    near = shape * max(0.0, 1 - 1 / (9 * shape) + normal / (3 * math.sqrt(shape))) ** 3
+    near = near_quantile(shape, normal_quantile(share))
     if shape > LARGE:
         return near
     low, high = 0.0, max(2 * near, shape + 10 * math.sqrt(shape) + 10)

@@ -8,9 +8,9 @@ import pathlib
 import typing
 
 from linksim_tools.common import rate_matching
-from linksim_tools.common.program import Failed, output_of
-from linksim_tools.common.vector import plan_of
-from linksim_tools.curve.chunks import HEADER, MOST_TRANSMISSIONS, block_of, lines_of, rounds_of_chunk, seed_of
+from linksim_tools.common.program import output_of, plan_of
+from linksim_tools.curve import chunks
+from linksim_tools.curve.chunks import MOST_TRANSMISSIONS, block_of, rounds_of_chunk, seed_of
 from linksim_tools.curve.draws import counting, threshold_of
 from linksim_tools.curve.results import Line, counts_text
 from linksim_tools.curve.simulating import simulator_of
@@ -60,13 +60,10 @@ def first_hope(setting: Setting, shape: Shape, p: float) -> int:
 
 
 @dataclasses.dataclass(frozen=True)
-class Sending:
-    """A round as it is made: its tally, its number in the chunk, and how many of its transmissions are made. The last
-    number, from 0, says from which transmission on they are counted."""
+class Sending(chunks.Sending):
+    """A round as it is made and counted: its tally, and from which of its transmissions on, from 0, they are counted."""
 
     tally: Tally
-    turn: int
-    count: int
     first: int
 
 
@@ -89,7 +86,7 @@ class Tally:
         self.erased: dict[int, list[list[int]]] = {}
 
     def sending(self, turn: int, first: int, count: int) -> Sending:
-        return Sending(self, turn, count, first)
+        return Sending(self.threshold, self.chunk, turn, count, self, first)
 
     def erased_after(self, turn: int, k: int) -> list[int]:
         """How many places of each code block are erased in the transmissions 0 to `k` of a round."""
@@ -144,11 +141,9 @@ class Maker:
         self.setting, self.program, self.source = setting, program, source
         self.simulator = simulator_of(setting, program)
         self.watch = watch or Watch(setting, program)
-        self.block = block_of(setting).encode()
         self.shape = shape_of(setting, program)
         self.counter = None if self.simulator else counting(self.shape.lengths)
         self.ends: dict[int, bool] = {}
-        self.records = [f"1,{rv},{setting.g},{setting.qm},{setting.nl},pcg:" for rv in setting.rvs]
 
     def at_a_time(self) -> int:
         """So many chunks fill a run of the program."""
@@ -187,56 +182,12 @@ class Maker:
         while sendings:
             again = []
             for part in parted(sendings):
-                for sending, states in zip(part, self.made(part)):
+                for sending, (_, states) in zip(part, chunks.made(self.setting, self.program, part)):
                     if sending.tally.add(sending, states) and sending.count < len(self.setting.rvs):
                         again.append(sending.tally.sending(sending.turn, sending.count, sending.count + 1))
             sendings = again
         for tally in tallies:
             self.ends.setdefault(tally.threshold, tally.pays_to_end())
-
-    def schedule(self, sendings: list[Sending]) -> str:
-        """The schedule of these rounds."""
-        lines = [HEADER]
-        for sending in sendings:
-            threshold, chunk, turn = sending.tally.threshold, sending.tally.chunk, sending.turn
-            for k in range(sending.count):
-                seed = seed_of(self.setting, threshold, chunk, turn, k)
-                lines.append(f"{self.records[k]}{seed}:{threshold},-,all,0,{int(k == 0)}\n")
-        return "".join(lines)
-
-    def made(self, sendings: list[Sending]) -> list[list[list[int]]]:
-        """Of each of these rounds, after each transmission, what each code block lacks."""
-        with lines_of(self.program, "run", self.setting, self.schedule(sendings)) as lines:
-            lacking, ends = self.read(lines, sendings)
-        c, at, found = len(self.shape.lengths), 0, []
-        if len(ends) != len(sendings) or len(lacking) != c * sum(sending.count for sending in sendings):
-            raise Failed("the program wrote another number of lines than its schedule wants: it is broken")
-        for sending, end in zip(sendings, ends):
-            states = [lacking[at + k * c : at + k * c + c] for k in range(sending.count)]
-            at += sending.count * c
-            found.append(states)
-            if end != ((b"open", False) if any(states[-1]) else (b"delivered", True)):
-                said = end[0].decode(errors="replace")
-                raise Failed(f"a round ended as {said}, against its counts: the program is broken")
-        return found
-
-    def read(
-        self, lines: typing.IO[bytes], sendings: list[Sending]
-    ) -> tuple[list[int], list[tuple[bytes, bool]]]:
-        """What each code block lacks after each transmission, in turn; and of each round its outcome, and whether it
-        is delivered as it was sent."""
-        lacking: list[int] = []
-        ends: list[tuple[bytes, bool]] = []
-        for line in lines:
-            if line.startswith(b"left "):
-                lacking.append(int(line[line.rindex(b" ") :]))
-            elif line.startswith(b"process "):
-                words = line.split()
-                ends.append((words[4], words[-1] == self.block))
-            elif line.startswith(b"refused "):
-                words, counts = line.split(), [k for sending in sendings for k in range(sending.count)]
-                raise Failed(f"transmission {counts[int(words[1]) - 1] + 1} of a round is refused: {words[3].decode()}")
-        return lacking, ends
 
 
 def parted(sendings: list[Sending]) -> typing.Iterator[list[Sending]]:

@@ -65,17 +65,21 @@ def waves(setting: Setting, lines: list[Line]) -> typing.Iterator[list[Task]]:
         tasks = wanted(setting, known)
 
 
-def outlook(setting: Setting, lines: list[Line]) -> list[Task] | None:
-    """The chunks that a run will probably want beyond these. The answer is None if that cannot be said: a point of the
-    grid has none yet, or they are very many."""
-    if any(p not in {line.p for line in lines} for p in setting.points):
-        return None
+def foreseen_of(setting: Setting, lines: list[Line]) -> list[Task]:
+    """The chunks that a run will probably want beyond these; of very many the first ones, more than MOST."""
     foreseen: list[Task] = []
     for tasks in waves(setting, lines):
         foreseen += tasks
         if len(foreseen) > MOST:
-            return None
+            break
     return foreseen
+
+
+def outlook(setting: Setting, lines: list[Line]) -> list[Task] | None:
+    """The same, or None if that cannot be said: a point of the grid has none yet, or they are very many."""
+    is_blind = any(p not in {line.p for line in lines} for p in setting.points)
+    foreseen = [] if is_blind else foreseen_of(setting, lines)
+    return None if is_blind or len(foreseen) > MOST else foreseen
 
 
 def wave(setting: Setting, lines: list[Line]) -> list[Task]:

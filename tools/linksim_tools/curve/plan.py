@@ -8,7 +8,7 @@ import typing
 
 from linksim_tools.curve.draws import threshold_of
 from linksim_tools.curve.grid import halvings, middle
-from linksim_tools.curve.intervals import QUANTILE
+from linksim_tools.curve.intervals import QUANTILE, near_quantile
 from linksim_tools.curve.making import first_hope
 from linksim_tools.curve.pool import Pool, binomial
 
@@ -32,11 +32,6 @@ FORESEEN = 0.7
 # A plan grows by a share of what a point has, in at most so many steps.
 GROWTH = 0.25
 MOST_STEPS = 400
-
-
-def near_quantile(shape: float, normal: float) -> float:
-    """The gamma distribution's quantile, nearly, from the normal one's (Wilson and Hilferty)."""
-    return shape * max(0.0, 1 - 1 / (9 * shape) + normal / (3 * math.sqrt(shape))) ** 3
 
 
 def near_ends(estimate: float, variance: float, weight: float) -> tuple[float, float]:

@@ -10,6 +10,7 @@ blocks is delivered with the product of their chances."""
 
 from __future__ import annotations
 
+import collections
 import dataclasses
 import math
 import typing
@@ -18,7 +19,7 @@ from linksim_tools.common.program import Failed
 from linksim_tools.curve.draws import threshold_of
 from linksim_tools.curve.intervals import TAIL, fay_feuer, gamma_quantile, normal_quantile, wilson
 from linksim_tools.curve.making import first_hope
-from linksim_tools.curve.results import Counts, counts_from, totals
+from linksim_tools.curve.results import summed, totals
 
 if typing.TYPE_CHECKING:
     from linksim_tools.curve.making import Shape
@@ -208,12 +209,12 @@ class Pool:
             counted = [line for line, hope in zip(self.points, hopes) if hope <= after]
             made = [(threshold_of(line.p) / 2**32, line.rounds) for line in self.points]
             rounds = [(p, count * (hope <= after)) for (p, count), hope in zip(made, hopes)]
-            groups = [counts_from(line.erased[after - 1]) for line in counted]
+            failed = summed(line.erased[after - 1] for line in counted)
             self.hopeless.append({line.p for line, hope in zip(self.points, hopes) if hope > after})
             self.parts.append([
                 Failures(
                     after * length, shape.kdash, [(p, some * count) for p, some in rounds],
-                    summed_failures(groups, index), numpy,
+                    failed[index] if index < len(failed) else collections.Counter(), numpy,
                 )
                 for index, (length, count) in enumerate(self.sizes)
             ])
@@ -279,29 +280,34 @@ class Pool:
         return 1 / rate if rate > 0 else 0.0
 
 
-def plain_estimate(line: Line, after: int, tail: float = TAIL, of_blocks: bool = False) -> Estimate:
-    """The share of failed rounds, or code blocks, at a point by its own chunks."""
-    failed, rounds = line.failed[after - 1], line.rounds
+def plain_estimate(line: Line, after: int, tail: float = TAIL, of_blocks: bool = False, apart: bool = True) -> Estimate:
+    """The share of failed rounds, or code blocks, at a point by its own chunks. If code blocks of a round do not fail `apart`, a
+    round may tell no more of them than one does."""
+    failed, rounds = float(line.failed[after - 1]), line.rounds
     if of_blocks:
-        failed, rounds = line.failed_codeblocks[after - 1], line.rounds * line.c
+        told = line.c if apart else 1
+        failed, rounds = line.failed_codeblocks[after - 1] * told / line.c, line.rounds * told
     low, high = wilson(failed, rounds, normal_quantile(1 - tail))
-    return Estimate(line.p, after, failed / rounds, low, high, low, high, float(failed), float(rounds), 1.0)
+    return Estimate(line.p, after, failed / rounds, low, high, low, high, failed, float(rounds), 1.0)
 
 
 class Plain:
-    """Each point by its own chunks, if the places of a link are not erased one by one."""
+    """Each point by its own chunks, if the places of a link are not erased one by one. The code blocks of a round fail `apart` if
+    none has to do with another one."""
 
-    def __init__(self, lines: list[Line]) -> None:
-        self.points = totals(lines)
+    def __init__(self, lines: list[Line], apart: bool = True) -> None:
+        self.points, self.apart = totals(lines), apart
 
     def at(self, p: float, after: int, tail: float = TAIL, of_blocks: bool = False) -> Estimate:
         """The block error rate. Between two points it is somewhere between their rates; the estimate is on the line between."""
         known = {line.p: line for line in self.points}
         if p in known:
-            return plain_estimate(known[p], after, tail, of_blocks)
-        low, high = max((q for q in known if q < p), default=min(known)), min((q for q in known if q > p), default=max(known))
-        first, last = (plain_estimate(known[q], after, tail, of_blocks) for q in (low, high))
-        share = (p - low) / (high - low) if high > low else 0.0
+            return plain_estimate(known[p], after, tail, of_blocks, self.apart)
+        if not min(known) < p < max(known):
+            raise Failed(f"no rate is known at {p}: the points are from {min(known)} to {max(known)}")
+        low, high = max(q for q in known if q < p), min(q for q in known if q > p)
+        first, last = (plain_estimate(known[q], after, tail, of_blocks, self.apart) for q in (low, high))
+        share = (p - low) / (high - low)
         logs = [math.log(max(one.estimate, LEAST)) for one in (first, last)]
         between = math.exp(logs[0] + share * (logs[1] - logs[0])) if last.estimate else 0.0
         return dataclasses.replace(first, p=p, estimate=between, low=first.low, high=last.high, low_if=None, high_if=None)
@@ -309,12 +315,3 @@ class Plain:
     def code_blocks_at(self, p: float, after: int, tail: float = TAIL) -> Estimate:
         """The code block error rate in the same way."""
         return self.at(p, after, tail, of_blocks=True)
-
-
-def summed_failures(groups: list[list[Counts]], index: int) -> dict[int, int]:
-    """The failures by K of one length of code blocks, over all points."""
-    found: dict[int, int] = {}
-    for group in groups:
-        for k, count in (group[index] if index < len(group) else {}).items():
-            found[k] = found.get(k, 0) + count
-    return found

@@ -2,6 +2,7 @@
 
 from __future__ import annotations
 
+import collections
 import contextlib
 import dataclasses
 import fcntl
@@ -16,7 +17,7 @@ import typing
 from linksim_tools.common import files
 from linksim_tools.common.program import Failed, Wrong, name_of, named_in_faults
 from linksim_tools.curve.draws import threshold_of
-from linksim_tools.curve.source import DIGITS, PARTS, differing, source_of
+from linksim_tools.curve.source import DIGITS, PARTS, Source, differing, table_and_keys
 
 if typing.TYPE_CHECKING:
     from linksim_tools.curve.setting import Setting
@@ -142,13 +143,15 @@ def lines_from(path: pathlib.Path | str) -> list[Line]:
             left_out.append("the last line has no end")
         elif line:
             found.append((number, line))
+        elif one.startswith("p,chunks,"):
+            raise Failed(f"{path}: these are sums of chunks, as merge --total writes them, and would count twice")
         elif one.strip() and not one.startswith(("p,chunk,", "#")):
             line = line_at_end(one)
             found += [(number, line)] if line else []
             left_out.append(f"line {number} {'begins with a line that was cut off' if line else 'is no line of results'}")
     for said in [*left_out[:MOST_SAID], *[f"and {len(left_out) - MOST_SAID} lines more"] * (len(left_out) > MOST_SAID)]:
         say(f"{path}: {said}, and is left out")
-    if not found and text.strip() and not text.startswith("p,chunk,"):
+    if not found and text.strip() and not text.startswith("p,chunk,"[: len(text)]):
         raise Failed(f"{path}: there is no line of results in it")
     return whole(path, found)
 
@@ -175,17 +178,16 @@ def log_of(path: pathlib.Path) -> pathlib.Path:
 
 @contextlib.contextmanager
 def results_file(path: pathlib.Path) -> typing.Iterator[io.FileIO]:
-    """The file of results, open at its end and for this run alone; what was cut off in its last line is taken away."""
-    if os.path.exists(path) and not os.path.isfile(path):
+    """The file of results, open at its end and for this run alone."""
+    if str(path) == "-" or os.path.exists(path) and not os.path.isfile(path):
         raise Wrong(f"{path} is no regular file: what was found is kept there, and read again")
     with open(path, "a+b", buffering=0) as file:
         try:
             fcntl.flock(file, fcntl.LOCK_EX | fcntl.LOCK_NB)
-        except OSError:
+        except BlockingIOError:
             raise Failed(f"{path}: another run writes there") from None
-        file.seek(0)
-        text = file.read()
-        file.truncate(text.rfind(b"\n") + 1)
+        except OSError as error:
+            raise Wrong(f"{path} cannot be locked there: {error.strerror}") from None
         yield file
 
 
@@ -242,14 +244,14 @@ def two_sources(sources: typing.Mapping[str, pathlib.Path | str]) -> str:
     return f"{said}; {name_of('curve')} audit CONF FILE --restamp tries a share of the older ones, and takes them over"
 
 
-def judge(setting: Setting, program: pathlib.Path, lines: list[Line]) -> None:
+def judge(setting: Setting, lines: list[Line]) -> None:
     """Fails if the lines are not of this curve; another program may have made them."""
     if not lines:
         raise Failed("there is no line in these files")
     there, count = lines[0].source, len(lines[0].failed)
     if count != len(setting.rvs):
         raise Failed(f"the results are of {count} transmissions, and {setting.path} has {len(setting.rvs)}")
-    now = there[:DIGITS] + source_of(setting, program).text()[DIGITS:]
+    now = Source(there, *table_and_keys(setting)).text()
     if there and there != now:
         raise Failed(f"the results are of another curve than {setting.path}: {differing(there, now)} differs ({there}, {now})")
 
@@ -262,16 +264,14 @@ def totals(lines: list[Line]) -> list[Line]:
     return [total(points[key]) for key in sorted(points)]
 
 
-def summed(texts: typing.Sequence[str]) -> str:
-    """The sum of the counts of several chunks."""
-    groups: list[Counts] = []
-    for text in texts:
-        for index, counts in enumerate(counts_from(text)):
-            if index == len(groups):
-                groups.append({})
-            for k, count in counts.items():
-                groups[index][k] = groups[index].get(k, 0) + count
-    return counts_text(groups)
+def summed(texts: typing.Iterable[str]) -> list[typing.Counter[int]]:
+    """The sum of the counts of several texts, by length of code blocks."""
+    groups: list[typing.Counter[int]] = []
+    for counts in map(counts_from, texts):
+        groups += [collections.Counter() for _ in counts[len(groups) :]]
+        for group, some in zip(groups, counts):
+            group.update(some)
+    return groups
 
 
 def total(lines: list[Line]) -> Line:
@@ -281,5 +281,5 @@ def total(lines: list[Line]) -> Line:
         for name in ("failed", "failed_codeblocks", "left")
     )
     first, rounds = lines[0], sum(line.rounds for line in lines)
-    erased = tuple(map(summed, zip(*(line.erased for line in lines))))
+    erased = tuple(counts_text(summed(texts)) for texts in zip(*(line.erased for line in lines)))
     return Line(first.p, len(lines), rounds, first.c, failed, code_blocks, left, erased, first.source)

@@ -18,7 +18,7 @@ from linksim_tools.curve.engines import Call, Engine
 from linksim_tools.curve.making import shape_of
 from linksim_tools.curve.packages import numpy_for
 from linksim_tools.curve.results import (
-    Line, comments_of, header, line_from, lines_from, log_of, note, results_file, rewrite, say, two_sources
+    Line, comments_of, header, line_from, log_of, merged, note, results_file, rewrite, say, two_sources
 )
 from linksim_tools.curve.source import Watch, source_of
 from linksim_tools.curve.tasks import Costs, batches
@@ -65,6 +65,10 @@ class Rule:
             return rest, outlook.outlook(self.setting, lines)
         return rest, [task for task in foreseen if (threshold_of(task[0]), task[1]) not in there] if foreseen else foreseen
 
+    def is_told(self, tasks: list[Task], foreseen: list[Task] | None) -> bool:
+        """Whether an estimate can be made: what comes is foreseen; or the grid is there, and very much comes."""
+        return foreseen is not None or not self.shape and not outlook.has_grid(self.setting, tasks)
+
 
 def judge_kept(call: Call, path: pathlib.Path, lines: list[Line]) -> None:
     """Fails if earlier results come from another program, table or setting."""
@@ -83,6 +87,7 @@ class Kept:
     file: io.FileIO
     lines: list[Line]
     costs: Costs
+    keys: set[tuple[int, int]] = dataclasses.field(default_factory=set)
 
     @property
     def log(self) -> pathlib.Path:
@@ -90,8 +95,9 @@ class Kept:
         return log_of(self.path)
 
     def begin(self) -> None:
-        """Reads the log, and writes the header of a new file."""
+        """Reads the log, takes away what was cut off in the last line of results, and writes the header of a new file."""
         judge_kept(self.call, self.path, self.lines)
+        self.keys.update(line.key() for line in self.lines)
         old = self.path.with_suffix(".log")
         if not self.log.exists() and old.is_file() and old.read_text(errors="replace").startswith(OLD_LOG):
             old.replace(self.log)
@@ -100,7 +106,9 @@ class Kept:
                 self.learn(line)
         else:
             self.put_log(LOG_HEADER)
-        if not self.file.tell():
+        self.file.seek(0)
+        text = self.file.read()
+        if not self.file.truncate(1 + max(map(text.rfind, (b"\n", b"\r")))):
             self.put(header(len(self.call.setting.rvs)))
 
     def learn(self, text: str) -> tuple[float, int] | None:
@@ -132,7 +140,7 @@ class Kept:
             file.write(f"{text}\n")
 
     def take(self, text: str) -> Line | None:
-        """Keeps what `point` wrote: a chunk, which is given back, or what it cost."""
+        """Keeps what `point` wrote: a chunk, which is given back if it was not there yet, or what it cost."""
         if text.startswith("# "):
             self.learn(text[2:].strip())
             self.put_log(text[2:].strip())
@@ -142,7 +150,10 @@ class Kept:
             raise Failed(f"point wrote no line of results: {text.strip()}")
         if line.source != self.call.source.text():
             raise Failed(f"point made a chunk of another source, {line.source}: nothing of it is kept")
+        if line.key() in self.keys:
+            return None
         self.put(line.text())
+        self.keys.add(line.key())
         self.lines.append(line)
         return line
 
@@ -151,7 +162,7 @@ class Kept:
 def kept(call: Call, out: pathlib.Path) -> typing.Iterator[Kept]:
     """The file of results of a run, and what is in it."""
     with results_file(out) as file:
-        found = Kept(call, out, file, lines_from(out), Costs())
+        found = Kept(call, out, file, merged([out]), Costs())
         found.begin()
         yield found
 
@@ -162,11 +173,9 @@ def run(setting: Setting, program: pathlib.Path, out: pathlib.Path, engine: Engi
         watch, call = Watch(setting, program), Call(setting, program, source_of(setting, program))
         rule, bar = Rule(setting, program), outlook.Bar()
         with kept(call, out) as found, going_on(found), contextlib.closing(bar):
-            there = {line.key() for line in found.lines}
             for text in engine.recovered(call):
                 line = line_from(text)
-                if line and line.source == call.source.text() and line.key() not in there:
-                    there.add(line.key())
+                if line and line.source == call.source.text():
                     found.take(text)
             if engine.slots() > setting.wave:
                 idle = f"a wave of {setting.path} has {setting.wave} chunks, so that some of {engine.slots()} at a time may idle"
@@ -174,14 +183,14 @@ def run(setting: Setting, program: pathlib.Path, out: pathlib.Path, engine: Engi
             while True:
                 watch.judge()
                 tasks, foreseen = rule.next(found.lines)
-                if not tasks or only_estimate and foreseen is not None:
+                if not tasks or only_estimate and rule.is_told(tasks, foreseen):
                     break
                 bar.expect(len(tasks), None if foreseen is None else len(foreseen))
                 for line in made(engine, found, tasks):
                     watch.judge()
                     bar.step(line.p)
             if only_estimate:
-                say_estimate(found, foreseen or [], engine.slots())
+                say_estimate(found, outlook.foreseen_of(setting, found.lines) if foreseen is None else foreseen, engine.slots())
                 return
             bar.finish()
             found.settle()
@@ -210,6 +219,8 @@ def made(engine: Engine, found: Kept, tasks: list[Task]) -> typing.Iterator[Line
 
 def say_estimate(found: Kept, foreseen: list[Task], slots: int) -> None:
     """What a run will take still: by point the chunks that are there, those to come, and their hours of a core."""
+    if foreseen and not found.costs.sums:
+        raise Failed(f"{found.log} does not say how long a chunk took: {len(foreseen)} chunks or more are to come")
     print("p,chunks,to_come,core_hours")
     total = 0.0
     for p in sorted({line.p for line in found.lines} | {p for p, _ in foreseen}):
@@ -218,4 +229,5 @@ def say_estimate(found: Kept, foreseen: list[Task], slots: int) -> None:
         total += hours
         print(f"{p!r},{there},{coming},{hours:.4f}")
     core, here = (str(datetime.timedelta(seconds=round(3600 * total / count))) for count in (1, slots))
-    say(f"about {core} hours of a core for {len(foreseen)} chunks, {here} with {slots} at a time")
+    about = "more than" if len(foreseen) > outlook.MOST and not found.call.setting.width else "about"
+    say(f"{about} {core} hours of a core for {len(foreseen)} chunks, {here} with {slots} at a time")

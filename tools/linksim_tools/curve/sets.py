@@ -8,7 +8,7 @@ import shlex
 import typing
 
 from linksim_tools.common.program import Failed
-from linksim_tools.curve.chunks import failed_rounds, lines_of, parts_of, schedule_of, write_files
+from linksim_tools.curve.chunks import failed_rounds, lines_of, parts_of, schedule_of, sendings_of, write_files
 
 if typing.TYPE_CHECKING:
     from linksim_tools.curve.setting import Setting
@@ -27,7 +27,8 @@ def stuck_sets(
     """The code blocks that are stuck after so many transmissions. Each has its round, its number in the block, the
     positions that are not fixed, and how many of them are below K'."""
     for part in parts_of(setting, p, range(setting.rounds), after):
-        with lines_of(program, "audit", setting, schedule_of(setting, p, chunk, part, after)) as lines:
+        schedule = schedule_of(setting, sendings_of(setting, p, chunk, part, after))
+        with lines_of(program, "audit", setting, schedule) as lines:
             for index, line in enumerate(lines):
                 words = line.split()
                 if words[2] == b"stuck":
@@ -54,5 +55,5 @@ def write_failed(
         raise Failed(f"{len(turns)} rounds failed, more than one schedule takes: use tools/curve sets, or a lower p")
     there = pathlib.Path(folder)
     there.mkdir(parents=True, exist_ok=True)
-    words = write_files(setting, there, schedule_of(setting, p, chunk, turns, after))
+    words = write_files(setting, there, schedule_of(setting, sendings_of(setting, p, chunk, turns, after)))
     return turns, shlex.join([short_path(program), "audit", *words])

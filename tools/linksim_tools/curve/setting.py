@@ -7,7 +7,8 @@ import pathlib
 import typing
 
 from linksim_tools.common import toml_file
-from linksim_tools.common.program import Failed
+from linksim_tools.common.program import Failed, settings_text
+from linksim_tools.curve.draws import threshold_of
 
 # The key, what its value is, and the least and the greatest value. Whether qm, nl and g go together says the program.
 NUMBERS = [
@@ -64,14 +65,18 @@ class Setting:
     burst: typing.Optional[tuple[float, ...]] = None
 
     @property
+    def is_single(self) -> bool:
+        """Whether what the link does to a bit has nothing to do with any other bit."""
+        return self.unit == "bit" and self.burst is None
+
+    @property
     def is_pooled(self) -> bool:
         """Whether all points speak of each other: each set of so many erased places is equally likely at any of them."""
-        return self.link == "erase" and self.unit == "bit" and self.burst is None
+        return self.link == "erase" and self.is_single
 
     def settings_text(self) -> str:
         """The settings file of the program."""
-        limit = "" if self.lbrm is None else f"lbrm = {self.lbrm}\n"
-        return f"rate2048 = {self.rate2048}\n{limit}"
+        return settings_text(self.rate2048, self.lbrm)
 
 
 def is_number(value: float, low: float, high: float, kinds: tuple[type[typing.Any], ...] = (int,)) -> bool:
@@ -140,7 +145,8 @@ def read_setting(name: str | pathlib.Path) -> Setting:
     keys: dict[str, typing.Any] = toml_file.read(path)
     judge(path, keys)
     others: dict[str, typing.Any] = {"path": path, "table": path.parent / keys["table"], "lbrm": keys.get("lbrm")}
-    others.update({"rvs": tuple(keys["rvs"]), "points": tuple(sorted({float(p) for p in keys["points"]}))})
+    points = {threshold_of(p): float(p) for p in reversed(keys["points"])}
+    others.update({"rvs": tuple(keys["rvs"]), "points": tuple(sorted(points.values()))})
     others["step"] = float(keys.get("step", STEP))
     others["errors"] = keys.get("errors", 0)
     others["burst"] = tuple(keys["burst"]) if "burst" in keys else None

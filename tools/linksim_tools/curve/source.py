@@ -41,7 +41,7 @@ def keys_of(setting: Setting) -> str:
 
 def keys_that_count(setting: Setting) -> list[str]:
     """The keys on which a chunk depends. Where single bits are erased or flipped, those of earlier versions are all of them."""
-    return [*KEYS, *(() if setting.unit == "bit" and setting.burst is None else UNITS)]
+    return [*KEYS, *(() if setting.is_single else UNITS)]
 
 
 @dataclasses.dataclass(frozen=True)
@@ -67,12 +67,16 @@ def digest_of(*texts: str) -> str:
     return hashlib.sha256("".join(f"{text}\n" for text in texts).encode()).hexdigest()
 
 
+def table_and_keys(setting: Setting) -> tuple[str, str]:
+    """What stays of a source if another program makes the chunks: the table and the keys."""
+    return digest_of("table", sha256_of(setting.table)), digest_of("keys", keys_of(setting))
+
+
 def source_of(setting: Setting, program: pathlib.Path) -> Source:
     """The source of the chunks of a setting that a program makes, or the library beside it."""
     version = output_of(program, ["--version"]).strip()
-    table = digest_of("table", sha256_of(setting.table))
     makers = map(sha256_of, [program, *library_files(setting, program)])
-    return Source(digest_of("program", version, *makers), table, digest_of("keys", keys_of(setting)))
+    return Source(digest_of("program", version, *makers), *table_and_keys(setting))
 
 
 def library_files(setting: Setting, program: pathlib.Path) -> list[pathlib.Path]:

@@ -28,22 +28,23 @@ def share_from(text: str) -> float:
 
 def chunks_from(text: str) -> range:
     """The chunks of a word: a number, or two with a stroke between for all from the one to the other."""
-    first, _, last = text.partition("-")
-    if not first.isdecimal() or not (last or first).isdecimal() or "-" in last:
+    numbers = [int(part) if part.isdecimal() else -1 for part in text.split("-")]
+    if len(numbers) > 2 or not 0 <= numbers[0] <= numbers[-1]:
         raise ValueError
-    return range(int(first), int(last or first) + 1)
+    return range(numbers[0], numbers[-1] + 1)
 
 
 def tasks_from(words: typing.Sequence[str]) -> list[Task]:
     """The chunks that words name: a probability and then chunks, or pieces P:CHUNKS with slashes between them."""
     try:
-        if len(words) == 1 and ":" in words[0]:
+        if len(words) == 1:
             pairs = [piece.split(":") for piece in words[0].split("/")]
             return [(probability(p), chunk) for p, chunks in pairs for chunk in chunks_from(chunks)]
         p = probability(words[0])
         return [(p, chunk) for word in words[1:] for chunk in chunks_from(word)]
-    except ValueError:
-        raise Wrong(f"{' '.join(words)} is no probability with chunks, as 0.27 0 1 4-7, and no 0.27:0-7/0.28:0") from None
+    except (IndexError, ValueError):
+        said = " ".join(words) or "an empty line"
+        raise Wrong(f"{said} is no probability with chunks, as 0.27 0 1 4-7, and no 0.27:0-7/0.28:0") from None
 
 
 def word_of(tasks: typing.Sequence[Task]) -> str:
@@ -82,8 +83,8 @@ def batches(tasks: typing.Sequence[Task], costs: Costs, least: float, most: int)
     work, as far as the costs are known."""
     total = sum(costs.of(p) for p, _ in tasks)
     count = min(most, len(tasks))
-    if total:
-        count = max(1, min(count, int(total / least)))
+    if 0 < total < least * count:
+        count = max(1, int(total / least))
     shares: list[list[Task]] = [[] for _ in range(count)]
     sums = [0.0] * count
     for place, task in enumerate(sorted(tasks, key=lambda it: (-costs.of(it[0]), it))):

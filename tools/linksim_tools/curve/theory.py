@@ -11,10 +11,10 @@ import typing
 
 from linksim_tools.common import files, rate_matching
 from linksim_tools.common.graphs import GRAPHS
-from linksim_tools.common.program import Failed, output_of
-from linksim_tools.common.vector import plan_of
+from linksim_tools.common.program import Failed, output_of, plan_of
 from linksim_tools.conform.code import entries_of
 from linksim_tools.curve.chunks import block_of
+from linksim_tools.curve.pool import binomial, window
 
 if typing.TYPE_CHECKING:
     from linksim_tools.common.graphs import Graph
@@ -168,27 +168,12 @@ def least_rate(p: float, heard: typing.Mapping[int, int], bits: int, numpy: typi
     This is theorem 38 of Polyanskiy, Poor and Verdu, IEEE Transactions on Information Theory 56, 2010."""
     low, masses = 0, numpy.ones(1)
     for times, count in heard.items():
-        first, part = binomial_masses(count, 1 - p**times, numpy)
-        low, masses = low + first, numpy.convolve(masses, part)
+        chance = 1 - p**times
+        first, last = window(count, chance)
+        low, masses = low + first, numpy.convolve(masses, numpy.exp(binomial(count, chance, first, last, numpy)))
     masses = masses[: max(0, bits - low)]
     missed = -numpy.expm1(math.log(2) * (numpy.arange(low, low + len(masses)) - bits))
     return float(min(1.0, (masses * missed).sum()))
-
-
-def binomial_masses(count: int, chance: float, numpy: typing.Any) -> typing.Any:
-    """The probabilities of a binomial distribution from a first number on, those that are too small to see left out."""
-    if chance in (0.0, 1.0):
-        return int(count * chance), numpy.ones(1)
-    reach = 12 * math.sqrt(count * chance * (1 - chance)) + 12
-    first, last = max(0, int(count * chance - reach)), min(count, int(count * chance + reach))
-    masses = [
-        math.exp(
-            math.lgamma(count + 1) - math.lgamma(k + 1) - math.lgamma(count - k + 1)
-            + k * math.log(chance) + (count - k) * math.log1p(-chance)
-        )
-        for k in range(first, last + 1)
-    ]
-    return first, numpy.array(masses)
 
 
 def counting_bound(setting: Setting, code: Code, after: int, numpy: typing.Any) -> typing.Any:

@@ -45,7 +45,7 @@ class Curve:
 
     def rates(self) -> Rates:
         """Its rates: pooled, or by point."""
-        return self.pool() or Plain(self.lines)
+        return self.pool() or Plain(self.lines, self.setting.is_single)
 
     def code(self) -> Code | None:
         """What theory needs, over erasures; a failure if the results have another number of code blocks."""
@@ -73,7 +73,7 @@ def curve_of(setting: Setting, program: pathlib.Path, files: typing.Sequence[str
     """A curve with the results of files, or of its own; a failure if they are of another one."""
     paths = [pathlib.Path(file) for file in files] or [setting.path.with_suffix(".csv")]
     lines = results.merged(paths)
-    results.judge(setting, program, lines)
+    results.judge(setting, lines)
     return Curve(setting, program, paths, lines)
 
 
