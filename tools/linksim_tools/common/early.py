@@ -16,7 +16,7 @@ def interrupted(_signal: int, _frame: typing.Any) -> None:
 
 def begin() -> None:
     """Takes up interrupts. A stream that was closed is opened the wrong way round. Whoever uses it gets a fault, and no file that
-    is opened later takes its number."""
+    is opened later takes its number. What standard output cannot show is escaped, as on standard error."""
     signal.signal(signal.SIGINT, interrupted)
     for number, name in enumerate(("stdin", "stdout", "stderr")):
         if getattr(sys, name) is None:
@@ -25,3 +25,4 @@ def begin() -> None:
                 os.dup2(wrong, number)
                 os.close(wrong)
             setattr(sys, name, open(number, "w" if number else "r", closefd=False))
+    typing.cast(typing.Any, sys.stdout).reconfigure(errors="backslashreplace")

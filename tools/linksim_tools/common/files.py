@@ -37,6 +37,15 @@ def octets_of(path: Path, most: int, cut: bool = False) -> bytes:
     return octets[:most]
 
 
+def block_line(path: str, number: int) -> str:
+    """A line of a blocks file, or of standard input if it is named -, from 1, as text."""
+    lines = octets_of(path, LIMITS["blocks"]).split(b"\n")
+    if number not in range(1, len(lines) + 1) or (number == len(lines) and not lines[-1]):
+        raise Failed(f"{path} has no block {number}")
+    line = lines[number - 1]
+    return (line[:-1] if line.endswith(b"\r") else line).decode("latin-1")
+
+
 def text_of(path: Path, most: int) -> str:
     """The same as text in UTF-8."""
     octets = octets_of(path, most)

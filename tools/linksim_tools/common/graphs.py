@@ -4,7 +4,8 @@ from __future__ import annotations
 
 import dataclasses
 
-# The largest lifting size of each set index, 0 to 7.
+# Of each set index, 0 to 7, the factor of its lifting sizes, which are it times a power of two. Then the largest of them.
+FACTORS = (2, 3, 5, 7, 9, 11, 13, 15)
 LARGEST = (256, 384, 320, 224, 288, 352, 208, 240)
 SETS = range(len(LARGEST))
 

@@ -12,6 +12,7 @@ import shutil
 import signal
 import subprocess
 import sys
+import tempfile
 import typing
 
 ROOT = pathlib.Path(__file__).resolve().parents[3]
@@ -89,6 +90,31 @@ def output_of(
             of = os.fspath(words[list(words).index("--table") + 1])
         raise Failed(f"{of}: {line}" if of else line)
     return ended.stdout.decode()
+
+
+def plan_of(line: str) -> dict[str, int]:
+    """The numbers of a line `block 1 a 8 b 24 ..` of `cut` by name."""
+    words = line.split()
+    return {name: int(number) for name, number in zip(words[2::2], words[3::2])}
+
+
+def settings_text(rate2048: int, lbrm: int | None = None) -> str:
+    """The settings file of a code rate, and maybe of a limit of the buffer."""
+    return f"rate2048 = {rate2048}\n" + ("" if lbrm is None else f"lbrm = {lbrm}\n")
+
+
+def answers_of(
+    program: pathlib.Path, command: str, table: str | os.PathLike[str], settings: str, blocks: typing.Iterable[str],
+    schedule: typing.Iterable[str],
+) -> list[str]:
+    """The lines that a command writes of a table's file, and of settings, blocks and a schedule that stand in no file."""
+    with tempfile.TemporaryDirectory() as name:
+        folder, words = pathlib.Path(name), [command, "--table", os.fspath(table)]
+        texts = {"settings": settings, "blocks": "\n".join([*blocks, ""]), "schedule": "\n".join([*schedule, ""])}
+        for option, text in texts.items():
+            (folder / option).write_text(text, encoding="utf-8")
+            words += [f"--{option}", str(folder / option)]
+        return output_of(program, words).splitlines()
 
 
 def ended(tool: str, status: int, said: typing.Any = None) -> None:

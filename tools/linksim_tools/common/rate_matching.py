@@ -24,15 +24,3 @@ def lengths(total: int, symbol: int, layers: int, scheduled: list[int] | range) 
     shorter = len(scheduled) - symbols % len(scheduled)
     least = symbols // len(scheduled)
     return {r: (least + (place >= shorter)) * symbol * layers for place, r in enumerate(scheduled)}
-
-
-def selected(word: list[int | None], first: int, length: int, count: int) -> list[int]:
-    """The bits of d (fillers: None) that are read from place `first` on, round and round the buffer."""
-    bits: list[int] = []
-    place = first
-    while len(bits) < count:
-        bit = word[place]
-        if bit is not None:
-            bits.append(bit)
-        place = (place + 1) % length
-    return bits

@@ -23,6 +23,18 @@ def read(path: pathlib.Path | str) -> dict[str, typing.Any]:
     return parsed(path, files.octets_of(path, files.LIMITS["settings"]))
 
 
+def settings_of(path: str) -> tuple[int, int | None]:
+    """The rate in 2048ths of a settings file and its TBS_LBRM, or None."""
+    settings = read(path)
+    for name in settings.keys() - {"rate2048", "lbrm"}:
+        raise Failed(f"{path}: {name} is no key of settings, which are rate2048 and lbrm")
+    for name, numbers in (("rate2048", range(1, 2049)), ("lbrm", range(1 << 32))):
+        value = settings.get(name, 1 if name == "lbrm" else None)
+        if type(value) is not int or value not in numbers:
+            raise Failed(f"{path}: {name} is no whole number of {numbers[0]} to {numbers[-1]}")
+    return settings["rate2048"], settings.get("lbrm")
+
+
 def parsed(path: pathlib.Path | str, octets: bytes) -> dict[str, typing.Any]:
     """The keys of the octets of a TOML file, or a failure with its first fault."""
     if tomllib is None:

@@ -2,6 +2,7 @@
 
 from __future__ import annotations
 
+import codecs
 import json
 import pathlib
 import typing
@@ -30,6 +31,7 @@ def shown(line: bytes) -> str:
 
 def is_answer(line: bytes) -> bool:
     """Whether a line may be an answer, of JSON or of plain words: others are remarks of a command."""
+    line = line.lstrip(codecs.BOM_UTF8)
     return line.lstrip().startswith(b"{") or line.split(None, 1)[:1] == [b"id"]
 
 
@@ -41,17 +43,21 @@ def left_out(lines: typing.Sequence[bytes]) -> list[str]:
     return [f"{many} left out; the first begins {shown(lines[0])}"]
 
 
-def object_of(line: str, from_words: typing.Callable[[list[str]], Object] | None) -> Object:
-    """The object of a line: of JSON, or of plain words by a function."""
-    if from_words is not None:
-        return from_words(line.split())
+def object_of(line: bytes, from_words: typing.Callable[[list[str]], Object] | None) -> tuple[str, Object]:
+    """The id and the object of a line: of JSON, or of plain words by a function."""
+    text = line.decode("utf-8-sig", errors="replace")
     try:
-        value = json.loads(line)
+        value = from_words(text.split()) if from_words else json.loads(text)
+        if not isinstance(value, dict):
+            raise Wrong("no JSON object")
+        if not isinstance(value.get("id"), str):
+            raise Wrong("no id")
     except (ValueError, RecursionError) as error:
-        raise Wrong(f"not JSON: {str(error)[:80]}") from None
-    if not isinstance(value, dict):
-        raise Wrong("no JSON object")
-    return value
+        said = "plain words want --plain" if text.split()[:1] == ["id"] else str(error)[:80]
+        raise Wrong(f"not JSON: {said}: {shown(line)}") from None
+    except Wrong as wrong:
+        raise Wrong(f"{wrong}: {shown(line)}") from None
+    return value["id"], value
 
 
 def pairs_of(words: list[str]) -> list[tuple[str, str]]:
@@ -65,19 +71,25 @@ def pairs_of(words: list[str]) -> list[tuple[str, str]]:
     return list(zip(names, words[1::2]))
 
 
-def troubles_of(path: str | pathlib.Path, most: int, take: typing.Callable[[bytes], None]) -> list[str]:
-    """Has each line of a file taken that is not empty and has at most so many octets, and says which cannot be judged."""
+def taken_from(
+    path: str | pathlib.Path, most: int, take: typing.Callable[[bytes], None]
+) -> tuple[list[str], list[str]]:
+    """Has each answer of a file taken that has at most so many octets. Says which lines cannot be judged, and in notes which are no
+    answers."""
     troubles: list[str] = []
-    number = 0
+    others: list[bytes] = []
+    number, is_whole = 0, True
     try:
         with open(path, "rb") as file:
             while line := file.readline(most + 1):
-                number += 1
+                number, is_whole = number + 1, line.endswith(b"\n") or line.lstrip().startswith(b"{")
                 try:
                     if len(line) > most:
                         raise Wrong(f"longer than {most} octets, and no answer of this suite can be")
-                    if line.strip():
+                    if is_answer(line):
                         take(line)
+                    elif line.strip():
+                        others.append(line[:SHOWN])
                 except Wrong as wrong:
                     troubles.append(f"{path} line {number}: {wrong}")
                 # The rest of a line that is too long is read away, if it ends.
@@ -89,4 +101,5 @@ def troubles_of(path: str | pathlib.Path, most: int, take: typing.Callable[[byte
                         raise Failed(f"{path} line {number}: it has more than {RESULTS:,} octets")
     except OSError as error:
         raise Failed(f"{path} cannot be read: {error.strerror}") from None
-    return troubles
+    cut = [] if is_whole else [f"{path} line {number} has no end: see whether the file is whole"]
+    return troubles, [*left_out(others), *cut]

@@ -9,6 +9,9 @@ import typing
 
 FILLER = "-"
 
+# What puts bits in another order.
+Order = typing.Callable[[str], str]
+
 # The character of each bit of a list in JSON.
 CHARACTERS = {0: "0", 1: "1", None: FILLER}
 
@@ -44,9 +47,28 @@ def hexadecimal(bits: str) -> str:
     return octets_of(bits).hex()[: -(-len(bits) // 4)]
 
 
+def words_of(bits: str, width: int) -> list[str]:
+    """The bits in words of so many, of which the last one may be shorter."""
+    return [bits[at : at + width] for at in range(0, len(bits), width)]
+
+
+def in_words(width: int, order: Order, whole: bool = False) -> Order:
+    """Each word of so many bits in this order; a last word that is not whole too, or not."""
+    return lambda bits: "".join(word if whole and len(word) < width else order(word) for word in words_of(bits, width))
+
+
+def backwards(bits: str) -> str:
+    return bits[::-1]
+
+
+def octets_backwards(bits: str) -> str:
+    """The octets in reverse, each as it is."""
+    return "".join(words_of(bits, 8)[::-1])
+
+
 def each_octet_reversed(bits: str) -> str:
     """The bits with those of each octet in reverse, also those of a last octet that is not whole."""
-    return "".join(bits[start : start + 8][::-1] for start in range(0, len(bits), 8))
+    return "".join(map(backwards, words_of(bits, 8)))
 
 
 def inverted(bits: str) -> str:
@@ -134,11 +156,31 @@ def table_of(degree: int, terms: int) -> list[int]:
     return table
 
 
+@functools.lru_cache(maxsize=1024)
+def power(polynomial: tuple[int, int], exponent: int) -> int:
+    """The remainder of D to this power, which is at least the degree."""
+    return remainder_of(polynomial, 1 << (exponent - polynomial[0]), exponent - polynomial[0] + 1)
+
+
+def folded(polynomial: tuple[int, int], number: int, count: int) -> tuple[int, int]:
+    """A polynomial of few terms with the same remainder, and how many. The terms from D^n on are those times what D^n
+    leaves. That takes a few sums of long numbers, and no look-up for each octet."""
+    while count > 128:
+        half = count // 2
+        high, number, factor = number >> half, number & ((1 << half) - 1), power(polynomial, half)
+        while factor:
+            number ^= high << (factor.bit_length() - 1)
+            factor ^= 1 << (factor.bit_length() - 1)
+        count += polynomial[0] - half
+    return number, count
+
+
 def remainder_of(polynomial: tuple[int, int], number: int, count: int) -> int:
     """The remainder of a polynomial of `count` terms times D to the degree of the CRC, by its generator polynomial."""
-    octets = number.to_bytes(-(-count // 8), "big")
     if polynomial == POLYNOMIALS["CRC16"]:
-        return binascii.crc_hqx(octets, 0)
+        return binascii.crc_hqx(number.to_bytes(-(-count // 8), "big"), 0)
+    number, count = folded(polynomial, number, count)
+    octets = number.to_bytes(-(-count // 8), "big")
     degree, _ = polynomial
     table, high, most = table_of(*polynomial), degree - 8, (1 << degree) - 1
     rest = 0

@@ -57,7 +57,10 @@ class Chain:
         if not all(0 <= it <= MOST_NUMBER for it in known.values()):
             raise Impossible("no plan")
         graph = known.get("graph", None) or self.of("graph")
-        plan = self.clauses.plan(graph, len(self.case.a), known.get("b", len(self.of("attached"))), known)
+        try:
+            plan = self.clauses.plan(graph, len(self.case.a), known.get("b", len(self.of("attached"))), known)
+        except (ArithmeticError, LookupError):
+            raise Impossible("no plan") from None
         if plan.z not in SIZES or plan.set not in range(8) or plan.c < 1 or plan.c * (plan.k + plan.n) > MOST_BITS:
             raise Impossible("no plan")
         return plan

@@ -6,14 +6,13 @@ from __future__ import annotations
 import functools
 import typing
 
-from linksim_tools.common.graphs import GRAPHS
+from linksim_tools.common.graphs import FACTORS, GRAPHS, LARGEST
 from linksim_tools.common.rate_matching import STARTS
 from linksim_tools.conform import bits as lists
 from linksim_tools.conform.case import Case, Plan, Row, scheduled
 
 # The lifting sizes of Table 5.3.2-1 in ascending order, each with its set index.
-ROWS = enumerate((2, 3, 5, 7, 9, 11, 13, 15))
-SETS = dict(sorted((a << j, index) for index, a in ROWS for j in range(8) if a << j <= 384))
+SETS = dict(sorted((a << j, index) for index, a in enumerate(FACTORS) for j in range(8) if a << j <= 384))
 SIZES = list(SETS)
 KCB = {1: 8448, 2: 3840}
 
@@ -114,10 +113,6 @@ class Segmentation:
         """The set index of a lifting size (Table 5.3.2-1)."""
         return SETS[z]
 
-    def columns_of_code_block(self, graph: int, kb: int) -> int:
-        """How many columns K bits fill."""
-        return GRAPHS[graph].information
-
     def plan(self, graph: int, a: int, b: int, known: typing.Mapping[str, int]) -> Plan:
         """All numbers of segmentation; those that are known already are taken as they are."""
         found: dict[str, int] = {"a": a, "b": b, "graph": graph}
@@ -134,7 +129,7 @@ class Segmentation:
         kb = put("kb", lambda: self.filled_columns(graph, a, b))
         z = put("z", lambda: self.lifting_size(graph, kb, kdash))
         put("set", lambda: self.set_index(z))
-        put("k", lambda: self.columns_of_code_block(graph, kb) * z)
+        put("k", lambda: GRAPHS[graph].information * z)
         put("n", lambda: (GRAPHS[graph].columns - 2) * z)
         return Plan(**found)
 
@@ -161,8 +156,7 @@ class Coding:
 
     def rows(self, rows: list[Row], graph: int, index: int, z: int) -> list[list[tuple[int, int]]]:
         """The columns of each row with their shifts."""
-        largest = max(size for size, it in SETS.items() if it == index)
-        shifted = [[(it, self.shift(self.value(values[index]), z, largest)) for it, values in row] for row in rows]
+        shifted = [[(it, self.shift(self.value(values[index]), z, LARGEST[index])) for it, values in row] for row in rows]
         return [[(column, shift) for column, shift in row if shift is not None] for row in shifted]
 
     def odd_row(self, shifts: dict[int, int]) -> int:
@@ -292,6 +286,10 @@ class Matching:
 class Clauses(Crc, Segmentation, Coding, Matching):
     """The whole chain."""
 
+    def plan_of(self, a: int, rate2048: int) -> Plan:
+        """The plan of a block of A bits."""
+        return self.plan(self.base_graph(a, rate2048), a, a + self.polynomial(self.crc_of_block(a))[0], {})
+
     def told(self, case: Case, before: Case | None) -> Case:
         """What is taken of a case; `before` is the case that stands before it in the suite."""
         return case
@@ -328,8 +326,3 @@ class Clauses(Crc, Segmentation, Coding, Matching):
 def right() -> Clauses:
     """The chain with nothing wrong."""
     return Clauses()
-
-
-def plan_of(a: int, b: int, rate2048: int) -> Plan:
-    """The right plan of a block of A bits."""
-    return right().plan(right().base_graph(a, rate2048), a, b, {})

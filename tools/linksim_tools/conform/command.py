@@ -14,6 +14,8 @@ from linksim_tools.common.program import Failed
 from linksim_tools.conform.answer_lines import SHOWN, shown
 
 CHUNK = 1 << 16
+# After so many lines that are no answers to a question none is waited for.
+REMARKS = 300_000
 
 
 class Stopped(Exception):
@@ -87,20 +89,24 @@ class Command:
 
     def silent(self, seconds: float) -> str:
         """What is said of a command that gives no answer."""
-        hint = "" if self.has_answered or self.rest else "; it has written nothing at all: is its output flushed?"
-        if self.left_out:
-            hint = f"; its last line is none: {shown(self.left_out[-1])}"
-        return f"the command gave no answer for {seconds:g} s{hint}"
+        hint = "--seconds gives it longer" if self.has_answered else "it has written nothing at all: is its output flushed?"
+        if self.rest:
+            hint = f"its last line has no end: {shown(self.rest)}"
+        elif self.left_out:
+            hint = f"its last line is none: {shown(self.left_out[-1])}"
+        return f"the command gave no answer for {seconds:g} s; {hint}"
 
     def answer(self, seconds: float, is_answer: typing.Callable[[bytes], bool] = any_line) -> bytes:
         """The next line of the command that is an answer, for which it has so long; others are left out. It is not given
         while a question is half written."""
-        deadline = time.monotonic() + seconds
+        deadline, most = time.monotonic() + seconds, len(self.left_out) + REMARKS
         found = None
         while True:
             found = self.line() if found is None else found
             if found is not None and not is_answer(found):
                 self.left_out.append(found[:SHOWN])
+                if len(self.left_out) == most:
+                    raise Stopped(f"the command wrote {REMARKS:,} lines that are no answers, the last one {shown(found)}")
                 found = None
                 continue
             if found is not None and self.left in (b"", self.whole):

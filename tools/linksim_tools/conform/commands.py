@@ -3,6 +3,7 @@
 from __future__ import annotations
 
 import argparse
+import contextlib
 import json
 import pathlib
 import sys
@@ -54,6 +55,8 @@ class Words:
             command.add_argument("--plain", action="store_true", help="lines of plain words in place of JSON")
             command.add_argument("--json", action="store_true", help="the report as JSON")
             command.add_argument("--html", metavar="FILE", help="the report as HTML too, in one file")
+        two.add_argument("--skip", type=number_in(0, 1e6, int), default=5, metavar="N",
+                         help="starts the command anew where it stops, up to N times (5)")
         return one, two
 
 
@@ -61,10 +64,10 @@ def number_in(low: float, high: float, kind: typing.Callable[[str], float]) -> t
     """Reads a number that is not out of these bounds."""
 
     def read(text: str) -> float:
-        number = kind(text)
-        if not low <= number <= high:
-            raise argparse.ArgumentTypeError(f"{text} is not from {low:g} to {high:g}")
-        return number
+        with contextlib.suppress(ValueError):
+            if low <= kind(text) <= high:
+                return kind(text)
+        raise argparse.ArgumentTypeError(f"{text} is not from {low:g} to {high:g}")
 
     return read
 
@@ -96,7 +99,7 @@ def reported(
     sys.stdout.flush()
     if given.html:
         try:
-            pathlib.Path(given.html).write_text("".join(line + "\n" for line in page), encoding="utf-8")
+            pathlib.Path(given.html).write_text("".join(line + "\n" for line in page), "utf-8", "backslashreplace")
         except OSError as error:
             raise Wrong(f"{given.html} cannot be written: {error.strerror}") from None
     return made.status()

@@ -8,14 +8,15 @@ import pathlib
 import typing
 
 from linksim_tools.common import files, provenance
-from linksim_tools.common.packing import PACKINGS
 from linksim_tools.common.program import Failed, name_of, output_of
 from linksim_tools.conform import bits as lists
 from linksim_tools.conform import code
 from linksim_tools.conform.case import Tables
-from linksim_tools.table import fingerprint
+from linksim_tools.conform.packing import PACKINGS
 
 FORMAT = 1
+# What suites are for, by the name of their format, and the words that write them.
+KINDS = {"conform": (" for encoders", "suite"), "receiver": (" for receivers", "receiver suite")}
 numbered_lines = files.numbered_lines
 
 Object = typing.Dict[str, typing.Any]
@@ -23,13 +24,24 @@ Object = typing.Dict[str, typing.Any]
 
 def packed(form: str, bits: str) -> Object:
     """A list of bits with their number, as tools/vectors packs it."""
-    value = lists.hexadecimal(bits) if form == "hex" else PACKINGS[form](list(map(int, bits)))
-    return {"count": len(bits), form: value}
+    return {"count": len(bits), form: PACKINGS[form](bits)}
 
 
 def listed(d: str) -> str:
     """The JSON text of the bits of a codeword, null for a filler."""
     return "[" + ",".join(d).replace(lists.FILLER, "null") + "]"
+
+
+def vector_lines(head: Object, parts: typing.Sequence[str], sent: Object) -> typing.Iterator[str]:
+    """The lines of a vector: one object, with the JSON text of a code block a line."""
+    yield "{"
+    for name, value in head.items():
+        yield f"{json.dumps(name)}: {json.dumps(value)},"
+    yield '"codeblocks": ['
+    yield ",\n".join(parts)
+    yield "],"
+    yield f'"sent": {json.dumps(sent)}'
+    yield "}"
 
 
 def json_line(path: str | pathlib.Path, number: int, line: str) -> Object:
@@ -56,6 +68,8 @@ def table_of(program: pathlib.Path, path: str | pathlib.Path) -> Tables:
 
 def digest_of_table(program: pathlib.Path, path: str | pathlib.Path) -> str:
     """The first digits of the SHA-256 of what `tools/table fingerprint` writes of a table."""
+    # It is loaded here: who reads a suite has no need of it.
+    from linksim_tools.table import fingerprint
     text = "".join(line + "\n" for line in fingerprint.fingerprint(program, path))
     return hashlib.sha256(text.encode()).hexdigest()[: fingerprint.DIGITS]
 
@@ -69,11 +83,11 @@ def made_by(program: pathlib.Path, path: str | pathlib.Path) -> dict[str, str]:
     }
 
 
-def head_of(path: str | pathlib.Path, numbered: tuple[int, str], name: str, wanted: set[str]) -> Object:
-    """The head of a suite, of its first line with its number: it has its format under `name`, and what is wanted."""
+def head_of(path: str | pathlib.Path, numbered: tuple[int, str], kind: str, wanted: typing.AbstractSet[str]) -> Object:
+    """The head of a suite of a kind, of its first line with its number. It has its format under the kind, and what is wanted."""
     head = json_line(path, *numbered) if numbered[1] else {}
-    if head.get(name) != FORMAT or not wanted <= head.keys():
-        raise Failed(f"{path} is no suite: its first line is not what {name_of('conform')} suite writes")
-    return head
-
-
+    if head.get(kind) == FORMAT and wanted <= head.keys() and isinstance(head.get("made", {}), dict):
+        return head
+    whose, made = KINDS[kind]
+    others = [f"; it is a suite{it}" for name, (it, _) in KINDS.items() if name in head and name != kind]
+    raise Failed(f"{path} is no suite{whose}: its first line is not what {name_of('conform')} {made} writes{''.join(others)}")

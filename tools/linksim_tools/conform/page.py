@@ -8,7 +8,9 @@ import typing
 from linksim_tools.conform.pictures import MARKS
 
 if typing.TYPE_CHECKING:
+    from linksim_tools.conform.listed import Mistake
     from linksim_tools.conform.record import Record
+    from linksim_tools.conform.report import Report
 
 STYLE = """
 * { box-sizing: border-box; }
@@ -36,10 +38,22 @@ def paragraph(text: str) -> str:
     return f"<p>{escaped(text.strip())}</p>"
 
 
-def row(kind: str, name: str, numbers: typing.Sequence[int]) -> str:
-    """A row of the table of steps."""
-    cells = "".join(f"<td>{it}</td>" for it in numbers)
-    return f'<tr class="{kind}"><td>{MARKS[kind]} {escaped(name)}</td>{cells}</tr>'
+def table(made: Report) -> typing.Iterator[str]:
+    """How many cases were answered, and the table of steps."""
+    profile = escaped(made.suite.profile)
+    yield f"<p>Suite <code>{profile}</code>: {len(made.suite.cases)} cases, {made.answered} answered.</p>"
+    yield "<table><tr><th>Step</th><th>pass</th><th>fail</th><th>not answered</th></tr>"
+    for step in made.steps.values():
+        cells = "".join(f"<td>{it}</td>" for it in (step.passing, len(step.failing), step.not_answered))
+        yield f'<tr class="{step.kind}"><td>{MARKS[step.kind]} {escaped(step.name)}</td>{cells}</tr>'
+    yield "</table>"
+
+
+def mistakes(listed: typing.Iterable[Mistake]) -> typing.Iterator[str]:
+    """Mistakes that are made together, each with what mends it."""
+    for it in listed:
+        name, clause, wrong, change = map(escaped, (it.name, it.clause, it.wrong, it.change))
+        yield f"<p><code>{name}</code> ({clause}): {wrong}<br>\n<strong>Change:</strong> {change}</p>"
 
 
 def record(found: Record | None) -> typing.Iterator[str]:

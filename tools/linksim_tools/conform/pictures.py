@@ -27,15 +27,11 @@ class Part:
     colour: str
 
 
-def escaped(text: str) -> str:
-    return html.escape(text)
-
-
 def svg(width: int, height: int, about: str, lines: typing.Iterable[str]) -> typing.Iterator[str]:
     """A picture of this size with words for those who do not see it."""
-    yield (f'<svg role="img" aria-label="{escaped(about)}" viewBox="0 0 {width} {height}" width="{width}" '
+    yield (f'<svg role="img" aria-label="{html.escape(about)}" viewBox="0 0 {width} {height}" width="{width}" '
            f'height="{height}" font-family="system-ui, sans-serif" font-size="13">')
-    yield f"<title>{escaped(about)}</title>"
+    yield f"<title>{html.escape(about)}</title>"
     yield from lines
     yield "</svg>"
 
@@ -45,7 +41,7 @@ def box(x: int, y: int, kind: str, name: str) -> typing.Iterator[str]:
     edge, wide = (COLOURS["mark"], 3) if kind == "fail" else (COLOURS["line"], 1)
     yield (f'<rect x="{x}" y="{y}" width="{WIDE - 24}" height="{HIGH - 14}" rx="4" fill="{COLOURS[kind]}" '
            f'stroke="{edge}" stroke-width="{wide}"/>')
-    yield f'<text x="{x + 10}" y="{y + 20}" fill="{COLOURS["text"]}">{MARKS[kind]} {escaped(name)}</text>'
+    yield f'<text x="{x + 10}" y="{y + 20}" fill="{COLOURS["text"]}">{MARKS[kind]} {html.escape(name)}</text>'
 
 
 def chain(steps: typing.Sequence[tuple[str, str]]) -> typing.Iterator[str]:
@@ -77,14 +73,14 @@ def strip(
                      f'stroke="{COLOURS["line"]}" stroke-width="0.5"/>')
         if width > NARROW:
             lines.append(f'<text x="{8 + x:.1f}" y="46" fill="{COLOURS["text"]}" font-size="11">'
-                         f"{escaped(part.name)}</text>")
+                         f"{html.escape(part.name)}</text>")
         x += width
     for level, (name, at) in enumerate(marks.items()):
         across = 4 + STRIP * at / whole
         side = "end" if across > STRIP / 2 else "start"
         lines.append(f'<path d="M{across:.1f} 56 v{10 + 14 * level}" stroke="{COLOURS["line"]}"/>')
         lines.append(f'<text x="{across:.1f}" y="{78 + 14 * level}" text-anchor="{side}" font-size="11" '
-                     f'fill="{COLOURS["text"]}">{escaped(name)}</text>')
+                     f'fill="{COLOURS["text"]}">{html.escape(name)}</text>')
     across = 4 + STRIP * (place + 0.5) / whole
     side = "end" if across > STRIP / 2 else "start"
     lines.append(f'<path d="M{across:.1f} 18 l-5 -8 h10 z M{across:.1f} 18 v38" fill="{COLOURS["mark"]}" '

@@ -39,10 +39,8 @@ def now() -> str:
     return datetime.datetime.now(datetime.timezone.utc).strftime("%Y-%m-%d %H:%M:%S UTC")
 
 
-def record_of(
-    judged: typing.Sequence[str], path: str, profile: str, seed: int | None, made: typing.Mapping[str, str]
-) -> Record:
+def record_of(judged: typing.Sequence[str], suite: typing.Any) -> Record:
     """The record of a command's words, or of a file of answers, with a suite."""
     words = " ".join(map(shlex.quote, judged))
-    program, fingerprint = (made.get(name, "unknown") for name in ("program", "fingerprint"))
-    return Record(words, now(), provenance.version_of_tools(), program, fingerprint, path, profile, seed)
+    program, fingerprint = (suite.made.get(name, "unknown") for name in ("program", "fingerprint"))
+    return Record(words, now(), provenance.version_of_tools(), program, fingerprint, suite.path, suite.profile, suite.seed)

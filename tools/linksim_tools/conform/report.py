@@ -76,7 +76,7 @@ class Report:
         }
 
     def head_lines(self) -> typing.Iterator[str]:
-        """The lines of text that every report begins with: what was judged, and the table of steps."""
+        """The lines of text that every report begins with: what was judged, the table of steps, and what is said of answers."""
         if self.record:
             yield from self.record.lines()
         yield f"suite {self.suite.profile}: {len(self.suite.cases)} cases, {self.answered} answered"
@@ -84,6 +84,7 @@ class Report:
         yield f"{'step':{wide}} {'pass':>6} {'fail':>6} {'not answered':>13}"
         for step in self.steps.values():
             yield f"{step.name:{wide}} {step.passing:6} {len(step.failing):6} {step.not_answered:13}"
+        yield from (*self.troubles, *self.notes)
 
     def end_line(self) -> str:
         """What is said in the end if nothing fails and all could be judged."""

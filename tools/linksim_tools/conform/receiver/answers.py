@@ -6,7 +6,7 @@ import pathlib
 import typing
 
 from linksim_tools.conform import bits as lists
-from linksim_tools.conform.answer_lines import Repeated, Wrong, is_answer, left_out, object_of, pairs_of, troubles_of
+from linksim_tools.conform.answer_lines import Repeated, Wrong, object_of, pairs_of, taken_from
 from linksim_tools.conform.files import Object
 from linksim_tools.conform.receiver import steps
 from linksim_tools.conform.receiver.told import Answer
@@ -16,7 +16,7 @@ if typing.TYPE_CHECKING:
 
 NAMES = ("id", "tx", "delivered", "passed", "info", "soft")
 # What a case's own line has beside these names: a receiver may send all of it back.
-PASSED_OVER = ("process", "fresh", "a", "rate2048", "lbrm", "rv", "g", "qm", "nl", "mask")
+PASSED_OVER = ("process", "fresh", "a", "rate2048", "lbrm", "rv", "g", "qm", "nl", "mask", "llr")
 
 # The answers by case, one a transmission, None if there is none.
 Answers = typing.Dict[str, typing.List[typing.Optional[Answer]]]
@@ -34,7 +34,7 @@ def most_octets(suite: Suite) -> int:
 
 def block_of(value: typing.Any) -> str | None:
     """The bits of a block in hexadecimal digits; None if nothing is handed up."""
-    if value is None or value == "-":
+    if value in (None, "", "-"):
         return None
     try:
         return lists.from_hex(value)
@@ -86,11 +86,8 @@ def from_words(words: list[str]) -> Object:
     return value
 
 
-def place_of(value: Object, suite: Suite, there: Answers) -> tuple[str, int]:
+def place_of(name: str, tx: typing.Any, suite: Suite, there: Answers) -> tuple[str, int]:
     """Which transmission is answered."""
-    name, tx = value.get("id"), value.get("tx")
-    if not isinstance(name, str):
-        raise Wrong("no id")
     if name not in suite.cases:
         raise Wrong(f"the suite has no case {name[:40]}")
     if type(tx) is not int:
@@ -107,8 +104,8 @@ def take(
     line: bytes, plain: bool, suite: Suite, there: Answers, wanted: tuple[str, int] | None = None
 ) -> None:
     """Takes a line as an answer; the transmission `wanted` was asked for."""
-    value = object_of(line.decode(errors="replace"), from_words if plain else None)
-    name, tx = place_of(value, suite, there)
+    name, value = object_of(line, from_words if plain else None)
+    name, tx = place_of(name, value.get("tx"), suite, there)
     if wanted is not None and (name, tx) != wanted:
         raise Wrong(f"an answer to transmission {tx} of case {name}, where {wanted[1]} of {wanted[0]} was asked")
     try:
@@ -121,12 +118,4 @@ def take(
 def read(path: str | pathlib.Path, suite: Suite, plain: bool) -> tuple[Answers, list[str], list[str]]:
     """The answers of a file, lines about those that cannot be judged, and notes about lines that are none."""
     there: Answers = {}
-    others: list[bytes] = []
-
-    def take_line(line: bytes) -> None:
-        if is_answer(line):
-            take(line, plain, suite, there)
-        else:
-            others.append(line)
-
-    return there, troubles_of(path, most_octets(suite), take_line), left_out(others)
+    return (there, *taken_from(path, most_octets(suite), lambda line: take(line, plain, suite, there)))

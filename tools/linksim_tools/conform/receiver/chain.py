@@ -53,6 +53,14 @@ def information(found: peeling.Peeled, z: int, info: range) -> Decoded:
     return Decoded((once + 2 * twice).to_bytes(len(bits), "big").translate(BITS).decode(), bits)
 
 
+@functools.lru_cache(1024)
+def given(soft: Soft, fillers: range) -> tuple[str, str]:
+    """Digits that say which bits of a codeword are known, and which of them are ones, with fillers that are zeros."""
+    known, ones = known_and_ones(soft)
+    first, last, count = fillers.start, fillers.stop, len(fillers)
+    return known[:first] + "1" * count + known[last:], ones[:first] + "0" * count + ones[last:]
+
+
 class Receiver:
     """A receiver. `shared` are mistakes in steps that an encoder has too: sizes, buffer, CRC, rows."""
 
@@ -62,7 +70,13 @@ class Receiver:
         self.tables = rows_of
         self.processes: dict[int, Process] = {}
         self.last: Arrival | None = None
-        self.clash = False
+        self.faulty = False
+        self.found: list[peeling.Peeled] = []
+
+    @property
+    def clash(self) -> bool:
+        """Whether something could not be taken or some row is not met, or the decoder went on for very long."""
+        return self.faulty or any(it.clash or it.rounds > STEADY for it in self.found)
 
     def take(self, told: Arrival, values: bytes) -> Answer:
         """What is answered to a transmission; its values are octets, 128 more than they are."""
@@ -199,10 +213,7 @@ class Receiver:
 
     def given(self, sizes: steps.Sizes, told: Arrival, soft: Soft) -> tuple[str, str]:
         """Digits that say which bits of a codeword are given, and which of them are ones: fillers are zeros (5.3.2)."""
-        known, ones = known_and_ones(soft)
-        first, last = sizes.filled.start, sizes.filled.stop
-        count = last - first
-        return known[:first] + "1" * count + known[last:], ones[:first] + "0" * count + ones[last:]
+        return given(soft, sizes.filled)
 
     def rows(self, sizes: steps.Sizes) -> peeling.Rows:
         """The parity rows (5.3.2)."""
@@ -225,7 +236,7 @@ class Receiver:
         known, ones = (peeling.columns_of(text, sizes.z) for text in self.given(sizes, told, soft))
         used = self.rows_used(sizes, process)
         found = peeling.peeled(self.rows(sizes), used, known, ones, self.iterations(), self.fixed_from())
-        self.clash |= found.clash or found.rounds > STEADY
+        self.found.append(found)
         return information(found, sizes.z, sizes.info)
 
     def decoded_all(self, sizes: steps.Sizes, told: Arrival, process: Process) -> list[Decoded]:

@@ -4,15 +4,20 @@ from __future__ import annotations
 
 import argparse
 import dataclasses
+import gc
 import typing
 
 from linksim_tools.common.program import Failed, add_program, program_at
 from linksim_tools.conform import record as recording
 from linksim_tools.conform.commands import Words, command_of, number_in, reported, written
 from linksim_tools.conform.receiver import answers as answering
-from linksim_tools.conform.receiver import ladder, listing, page, report, run
+from linksim_tools.conform.receiver import report
 from linksim_tools.conform.receiver import suite as suites
 from linksim_tools.conform.receiver.level import Level
+
+# What a command alone needs is loaded where it is: `check` is to be done at once.
+if typing.TYPE_CHECKING:
+    from linksim_tools.conform.receiver import run
 
 EXAMPLES = """
 examples:
@@ -28,6 +33,7 @@ ABOUT = "Conformance of a receiver with TS 38.212: a suite of cases, and a check
 
 def manner_of(given: argparse.Namespace) -> run.Manner:
     """How a receiver is asked."""
+    from linksim_tools.conform.receiver import run
     level = Level(given.level, given.bits, given.positive)
     for strong in (level.strong, *(getattr(given, "levels", None) or ())):
         if strong > level.largest:
@@ -38,18 +44,26 @@ def manner_of(given: argparse.Namespace) -> run.Manner:
 
 def suite_lines(program: str | None, *words: typing.Any) -> list[str]:
     """The lines of a suite."""
-    return suites.written(program_at(program), *words)
+    from linksim_tools.conform.receiver import writing
+    return writing.written(program_at(program), *words)
 
 
-def lines(of: typing.Callable[..., typing.Iterable[str]], *names: str) -> typing.Callable[[argparse.Namespace], None]:
-    """Writes the lines of a suite."""
+def lines(listed: str, *names: str) -> typing.Callable[[argparse.Namespace], None]:
+    """Writes the lines of a suite, as this function of the listing has them."""
 
     def write(given: argparse.Namespace) -> None:
+        from linksim_tools.conform.receiver import listing
         more = [manner_of(given) if name == "manner" else getattr(given, name) for name in names]
-        for line in of(suites.read(given.suite), *more):
+        for line in getattr(listing, listed)(suites.read(given.suite), *more):
             print(line)
 
     return write
+
+
+def page_of(made: report.Report) -> typing.Iterator[str]:
+    """The lines of the report as a page."""
+    from linksim_tools.conform.receiver import page
+    yield from page.lines(made)
 
 
 def judged(
@@ -57,20 +71,22 @@ def judged(
     words: list[str], levels: typing.Sequence[str] = (),
 ) -> int:
     """Writes the report of these answers, and says the status."""
-    record = recording.record_of(words, suite.path, suite.profile, suite.seed, suite.made)
+    record = recording.record_of(words, suite)
     made = report.report(suite, answers, troubles, notes, record)
     made.levels += levels
-    return reported(given, made, report.text(made), page.lines(made))
+    return reported(given, made, report.text(made), page_of(made))
 
 
 def check(given: argparse.Namespace) -> int:
-    """Judges a file of answers."""
+    """Judges a file of answers. What is made for it stays until the end: to look for what does not takes a tenth of the time."""
+    gc.disable()
     suite = suites.read(given.suite)
     return judged(given, suite, *answering.read(given.answers, suite, given.plain), [given.answers])
 
 
 def go(given: argparse.Namespace) -> int:
     """Runs a receiver and judges what it answers."""
+    from linksim_tools.conform.receiver import ladder, run
     command, manner, suite = command_of(given), manner_of(given), suites.read(given.suite)
     levels = sorted(dataclasses.replace(manner.level, strong=it) for it in given.levels or ())
     if not levels:
@@ -79,7 +95,8 @@ def go(given: argparse.Namespace) -> int:
     failing = {level: ladder.failing(suite, it[0]) for level, it in found.items()}
     # The report is on the first level with trouble, or at which something fails.
     first = next((it for it in levels if found[it][1] or failing[it]), levels[0])
-    return judged(given, suite, *found[first], command, ladder.lines(suite, failing))
+    whole = set(suite.cases).intersection(*({name for name, it in there.items() if None not in it} for there, *_ in found.values()))
+    return judged(given, suite, *found[first], command, ladder.lines(suite, failing, whole))
 
 
 def levels_of(text: str) -> list[int]:
@@ -104,15 +121,13 @@ def options() -> argparse.ArgumentParser:
     add_program(made)
     _, asks = words.add_judges(check, go, "a receiver")
     asks.add_argument("--restart", action="store_true", help="starts the command anew for each case, and writes no `reset`")
-    asks.add_argument("--skip", type=number_in(0, 1e6, int), default=5, metavar="N",
-                      help="starts the command anew where it stops, up to N times (5)")
     asks.add_argument("--levels", type=levels_of, metavar="N,..",
                       help="runs it at each of these strong values, and tells them together")
-    writes = words.add("plain", lines(listing.plain, "manner"), "writes the cases as lines of plain words")
-    shows = words.add("show", lines(listing.show, "id", "manner"), "writes one case, and what is right of it")
+    writes = words.add("plain", lines("plain", "manner"), "writes the cases as lines of plain words")
+    shows = words.add("show", lines("show", "id", "manner"), "writes one case, and what is right of it")
     shows.add_argument("id", metavar="ID", help="the id of the case")
-    words.add("mistakes", lines(listing.mistakes), "writes the known mistakes, each with the number of cases that show it")
-    words.add("points", lines(listing.points), "writes what each case is for, and how many mistakes it shows")
+    words.add("mistakes", lines("mistakes"), "writes the known mistakes, each with the number of cases that show it")
+    words.add("points", lines("points"), "writes what each case is for, and how many mistakes it shows")
     for command in (asks, writes, shows):
         add_level(command)
     return words.parser

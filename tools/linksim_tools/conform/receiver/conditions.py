@@ -24,6 +24,7 @@ MOST_ROWS = 3
 BY_CHANCE = ("Zc", "the set index")
 # How many alike ones are told.
 TOLD = 4
+NEEDED = "is needed"
 
 
 @dataclasses.dataclass(frozen=True)
@@ -83,21 +84,15 @@ def of_sizes(sizes: steps.Sizes) -> typing.Iterator[str]:
         yield "Zc > 256"
 
 
-def needs_of_row(rows: peeling.Rows, number: int, given: list[tuple[int, ...]], columns: int) -> typing.Iterator[str]:
-    """Whether a row is needed to find all information columns, and whether it decides a bit of them. It does if they change
-    when all that it gives is turned over."""
-    if number >= 4 and not given[0][rows.rows[number][-1][0]]:
-        return
-    most = (1 << rows.z) - 1
-    known, ones = (tuple([*it, most]) for it in given)
-    less, turned = (peeling.Peeler(rows.with_row(number, row), len(rows.rows), known, ones)
-                    for row in ((), (*rows.rows[number], (rows.columns, 0))))
-    less.spread()
-    if any(less.unknown[:columns]):
-        yield "is needed"
-    turned.spread()
-    if tuple(turned.ones[:columns]) != peeling.peeled(rows, len(rows.rows), given[0], given[1], None).ones[:columns]:
-        yield "decides a bit"
+def row_does(does: str, right: peeling.Peeler, number: int, given: list[tuple[int, ...]], columns: int) -> bool:
+    """Whether a row is needed to find all information columns, or decides a bit of them. It does if they change when all that it
+    gives is turned over. `right` has what all rows give."""
+    rows = right.rows
+    row = () if does == NEEDED else (*rows.rows[number], (rows.columns, 0))
+    known, ones = (tuple([*it, right.most]) for it in given)
+    other = peeling.Peeler(rows.with_row(number, row), len(rows.rows), known, ones)
+    other.spread()
+    return any(other.unknown[:columns]) if does == NEEDED else other.ones[:columns] != right.ones[:columns]
 
 
 def needed(of: Diagnosis, kept: Kept, wanted: typing.Collection[str] | None = None) -> set[str]:
@@ -106,14 +101,16 @@ def needed(of: Diagnosis, kept: Kept, wanted: typing.Collection[str] | None = No
     for told, values, right in zip(kept.case.arrivals, kept.case.values, kept.right):
         receiver.take(told, octets_of(values))
         sizes = receiver.sizes(told, told)
-        rows = receiver.rows(sizes)
         for it in receiver.processes[told.process].soft or [] if right[0] == judged.MEANT else ():
             given = [peeling.columns_of(text, sizes.z) for text in receiver.given(sizes, told, it)]
-            for number in range(len(rows.rows)):
-                words = {f"row {number} of base graph {sizes.graph} {does}": does for does in ("is needed", "decides a bit")}
-                if wanted is None or not words.keys().isdisjoint(wanted):
-                    there = set(needs_of_row(rows, number, given, sizes.k // sizes.z))
-                    found |= {text for text, does in words.items() if does in there}
+            all_rows = peeling.Peeler(receiver.rows(sizes), len(receiver.rows(sizes).rows), given[0], given[1])
+            all_rows.spread()
+            # A row that fixes no bit first does nothing, nor does one whose own column is not known.
+            numbers = [it for it in all_rows.giving if it < 4 or given[0][all_rows.rows.rows[it][-1][0]]]
+            for number, does in itertools.product(numbers, (NEEDED, "decides a bit")):
+                words = f"row {number} of base graph {sizes.graph} {does}"
+                if words not in found and (wanted is None or words in wanted):
+                    found |= {words} if row_does(does, all_rows, number, given, sizes.k // sizes.z) else set()
             last = known_and_ones(it)[0].rfind("1") - 2 * sizes.z
             found |= {f"a place from {1 << n:,} on is needed" for n in range(7, 16) if last >= 1 << n}
     return found
@@ -146,9 +143,9 @@ def properties(of: Diagnosis, name: str) -> set[str]:
         found.add("several processes are busy")
     elif rounds > 1:
         found.add("a fresh block follows another one")
-    if set("qQiI") & set("".join(kept.case.values)):
+    if kept.case.has("qQiI"):
         found.add("values are weak")
-    if set("hHlLM") & set("".join(kept.case.values)):
+    if kept.case.has("hHlLM"):
         found.add("values are the largest")
     return found
 

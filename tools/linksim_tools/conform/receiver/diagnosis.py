@@ -6,7 +6,7 @@ from __future__ import annotations
 import dataclasses
 import typing
 
-from linksim_tools.conform.receiver import conditions, judged, starts, tried
+from linksim_tools.conform.receiver import conditions, judged, starts, steps, tried
 from linksim_tools.conform.receiver.mistakes import MISTAKES
 from linksim_tools.conform.receiver.pairs import CLASH, SURE, Pairs
 
@@ -32,26 +32,32 @@ Words = typing.List[typing.Optional[typing.Tuple[typing.Optional[str], ...]]]
 
 
 def words_of(answer: Answer | None, meant: str, told: Arrival) -> tuple[str | None, ...] | None:
-    """An answer as a suite keeps it; None if a level was not answered."""
+    """An answer as a suite keeps it; None if a level was not answered. If a single code block fails, `0` is none: it may say that
+    the CRC of the block fails."""
     if answer is None:
         return None
     shown = judged.shown(answer, meant, told)
-    there = (True, answer.passed is not None, answer.info is not None, answer.soft is not None)
+    says = answer.passed != "0" or answer.delivered is not None or steps.sizes(told.a, told.rate2048, steps.RIGHT).c > 1
+    there = (True, answer.passed is not None and says, answer.info is not None, answer.soft is not None)
     return tuple(word if given else None for word, given in zip(shown, there))
 
 
 def agree(
     answers: Shown, words: Words, levels: typing.Collection[int], also: Also = ()
+) -> typing.Iterator[bool]:
+    """Whether what was answered at these levels is this, of each transmission. What is accepted `also` is of receivers that keep
+    what has passed, and may leave their soft values as they are then."""
+    return (agrees_once(*it, levels, also[tx] if also else ()) for tx, it in enumerate(zip(answers, words)))
+
+
+def agrees_once(
+    wanted: tuple[str, ...], word: tuple[str | None, ...] | None, levels: typing.Collection[int],
+    also: typing.Sequence[tuple[str, str]],
 ) -> bool:
-    """Whether what was answered at these levels is this. What is accepted `also` is of receivers that keep what has passed, and
-    may leave their soft values as they are then."""
-    for tx, (wanted, word) in enumerate(zip(answers, words)):
-        if word is None or all(word[level] in (None, wanted[level]) for level in levels):
-            continue
-        if tx < len(also) and any(all(word[level] in (None, it[level]) for level in levels if level < 2) for it in also[tx]):
-            continue
-        return False
-    return True
+    """The same of one."""
+    if word is None or all([word[level] in (None, wanted[level]) for level in levels]):
+        return True
+    return any(all(word[level] in (None, it[level]) for level in levels if level < 2) for it in also)
 
 
 @dataclasses.dataclass
@@ -62,7 +68,8 @@ class Finding:
     it. `one`: the same of the one case that fails. `loses`: they lose the same blocks. `not`: they do, but something else that
     was answered contradicts it. `pairs`: two together. `nearest`: they explain half of the cases that fail. `right`: all
     blocks are right. `told`: no mistake, but a condition or a constant explains them. `handed`: all wrong blocks come from the
-    right ones in one way. `nothing`: next to nothing is handed up. `none`: none of these.
+    right ones in one way. `nothing`: next to nothing is handed up. `long`: only cases fail that are too long for mistakes to be
+    asked. `none`: none of these.
 
     `against` are the cases whose blocks they do not give, in all of which what is decoded contradicts itself if `clashes`."""
 
@@ -92,6 +99,7 @@ class Diagnosis:
 
     def __init__(self, suite: Suite, answers: Answers) -> None:
         self.suite, self.words = suite, {}
+        self.costs_of: dict[tuple[str, tuple[int, ...]], dict[str, int]] = {}
         for name, found in answers.items():
             kept = suite.cases[name]
             words = [words_of(*it) for it in zip(found, kept.case.meant, kept.case.arrivals)]
@@ -107,23 +115,29 @@ class Diagnosis:
         """The levels at which a case is judged: what contradicts itself is judged by blocks alone."""
         return (0,) if clash else tuple(LEVELS)
 
+    def fits(self, name: str) -> typing.Iterator[bool]:
+        """Whether what was answered to each transmission of a case is right."""
+        kept = self.suite.cases[name]
+        return agree(kept.right, self.words[name], self.levels(kept.clash), kept.also)
+
     def fails(self, name: str) -> bool:
         """Whether something that was answered to a case is not right."""
-        kept = self.suite.cases[name]
-        return not agree(kept.right, self.words[name], self.levels(kept.clash), kept.also)
+        return not all(self.fits(name))
 
     def agrees(self, answers: Shown, name: str, levels: typing.Collection[int] = (0,)) -> bool:
         """Whether these answers to a case have the blocks that were answered, or what was answered at other levels."""
-        return agree(answers, self.words[name], levels, self.suite.cases[name].also)
+        return all(agree(answers, self.words[name], levels, self.suite.cases[name].also))
 
     def given_by(self, made: type[Receiver], name: str) -> bool:
         """Whether such a receiver gives what was answered to a case. It is not asked on after another block."""
-        receiver, words = made(self.suite.tables), []
-        for shown in judged.one_by_one(receiver, self.suite.cases[name].case):
-            words.append(shown)
-            if not self.agrees(tuple(words), name):
+        receiver, kept, words = made(self.suite.tables), self.suite.cases[name], self.words[name]
+        answers = []
+        for answer, meant, word, also in zip(judged.taken(receiver, kept.case), kept.case.meant, words, kept.also):
+            answers.append(answer)
+            if not agrees_once((judged.block(answer, meant),), word, (0,), also):
                 return False
-        return self.agrees(tuple(words), name, self.levels(receiver.clash))
+        shown = tuple(map(judged.shown, answers, kept.case.meant, kept.case.arrivals))
+        return self.agrees(shown, name, self.levels(receiver.clash))
 
     def is_whole(self, name: str) -> bool:
         """Whether all transmissions of a case were answered."""
@@ -131,12 +145,19 @@ class Diagnosis:
 
     def cost(self, mistake: str, levels: typing.Collection[int], names: typing.Sequence[str] = ()) -> int:
         """What a mistake costs: how surely it does not give all answers, or those to these cases."""
-        total = 0
-        for name in names or self.judged:
-            answers, clash = self.suite.cases[name].answers(mistake)
-            if not self.agrees(answers, name, levels):
-                total += CLASH if clash else SURE
-        return total
+        costs = [self.costs(name, levels) for name in names or self.judged]
+        return sum(it.get(mistake, it[""]) for it in costs)
+
+    def costs(self, name: str, levels: typing.Collection[int]) -> dict[str, int]:
+        """The same of a case alone, by the mistake; all that are not there answer as none does, under the empty name. Many
+        mistakes have the same answers, which are compared once."""
+        key = name, tuple(levels)
+        if key not in self.costs_of:
+            kept = self.suite.cases[name]
+            every = {"": (kept.right, kept.clash), **kept.wrong}
+            given = {it: self.agrees(it, name, levels) for it in {it for it, _ in every.values()}}
+            self.costs_of[key] = {it: 0 if given[answers] else CLASH if clash else SURE for it, (answers, clash) in every.items()}
+        return self.costs_of[key]
 
     def least(self, names: list[str], levels: typing.Collection[int]) -> tuple[int, list[str]]:
         """The least cost of these mistakes, and which have it."""
@@ -239,7 +260,7 @@ class Diagnosis:
     def apart(self, names: list[str]) -> str | None:
         """The first level that was not answered at which some case tells these mistakes apart."""
         for level in LEVELS if len(names) > 1 else ():
-            answered = all(word[level] is not None for words in self.words.values() for word in words if word is not None)
+            answered = any(word[level] is not None for words in self.words.values() for word in words if word is not None)
             for kept in self.suite.cases.values() if not answered else ():
                 if len({tuple(it[level] for it in kept.answers(name)[0]) for name in names}) > 1:
                     return judged.LEVELS[level]
@@ -249,7 +270,7 @@ class Diagnosis:
 @dataclasses.dataclass(frozen=True)
 class Iterations:
     """The deepest pattern up to which all were delivered, and the deepest that was: rounds of flooding, and of layers. Of how
-    many patterns this is known, and whether some was not delivered."""
+    many patterns this is known, and whether some deeper one was not delivered."""
 
     all_up_to: tuple[int, int] | None
     delivered: tuple[int, int]
@@ -269,4 +290,4 @@ def iterations(of: Diagnosis) -> Iterations | None:
     if not there:
         return None
     below = [it for it in there if not lacking or it < min(lacking)]
-    return Iterations(max(below, default=None), max(there), len(depths), bool(lacking))
+    return Iterations(max(below, default=None), max(there), len(depths), max(lacking, default=(0, 0)) > max(there))

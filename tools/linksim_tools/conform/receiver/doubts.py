@@ -22,7 +22,7 @@ SHOWN = {
     "doubt-zeros": f"a block of zeros is not decoded: {EARLY}",
     "two-zeros-first": f"a code block of zeros is not as it is in other code blocks: {EARLY}",
 }
-WEAK, STRONG = set("qQ"), set("hHlL")
+WEAK, STRONG = "qQ", "hHlL"
 
 
 def only_not_delivered(of: Diagnosis, failing: list[str]) -> bool:
@@ -34,9 +34,9 @@ def only_not_delivered(of: Diagnosis, failing: list[str]) -> bool:
     return True
 
 
-def of_values(of: Diagnosis, failing: list[str], characters: set[str]) -> bool:
+def of_values(of: Diagnosis, failing: list[str], characters: str) -> bool:
     """Whether only cases with such values fail, and half of all that have some."""
-    having = [name for name in of.judged if characters & set("".join(of.suite.cases[name].case.values))]
+    having = [name for name in of.judged if of.suite.cases[name].case.has(characters)]
     return set(failing) <= set(having) and 2 * len(failing) >= len(having)
 
 

@@ -21,7 +21,6 @@ Group = typing.Tuple[int, int, int]
 Wanted = typing.Callable[[int, int, int], typing.Any]
 
 ROUNDS, TRIES = 8, 60
-SIGN_OF = {"0": "+", "1": "-"}
 
 
 @functools.lru_cache(None)

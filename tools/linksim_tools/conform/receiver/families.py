@@ -162,6 +162,12 @@ def clipped(bits: int) -> typing.Callable[[int], int]:
     return lambda it: max(-(1 << bits - 1), min(it, (1 << bits - 1) - 1))
 
 
+def each(change: typing.Callable[..., int], *softs: Soft) -> Soft:
+    """What is made of the values at each place. There are few different ones, each of which is changed once."""
+    made = {values: change(*values) for values in set(zip(*softs))}
+    return Soft(map(made.__getitem__, zip(*softs)))
+
+
 def translating(table: bytes) -> Method:
     return lambda _self, _right, values: values.translate(table)
 
@@ -172,7 +178,7 @@ def of_sums() -> typing.Iterator[Mistake]:
         for words, change in (("wrap around", wrapped(bits)), ("stop at the largest one", clipped(bits))):
             words += ", with strong values of 16"
             yield kind("combining", "5.4.2.1", f"sums of {bits} bits {words}", "keep more bits",
-                       stored=lambda _self, _right, soft, change=change: Soft(map(change, soft)))
+                       stored=lambda _self, _right, soft, change=change: each(change, soft))
             yield kind("parting", "-", f"values of {bits} bits {words}", "keep more bits",
                        heard=translating(translated(change)))
     weak = translated(lambda it: it if abs(it) >= 16 else 0)
@@ -182,7 +188,7 @@ def of_sums() -> typing.Iterator[Mistake]:
                         ("what comes later counts half", lambda old, new: old + int(new / 2) if old else new),
                         ("what comes is taken away from what there was", lambda old, new: old - new if old else new)):
         yield kind("combining", "5.4.2.1", words, "add the values",
-                   combined=lambda _self, _right, had, came, _places, made=made: Soft(map(made, had, came)))
+                   combined=lambda _self, _right, had, came, _places, made=made: each(made, had, came))
     for words, first in (("the first transmission alone counts", True), ("the last transmission alone counts", False)):
         yield kind("combining", "5.4.2.1", words, "add the values",
                    combined=lambda _self, _right, had, came, _places, first=first: had if first and any(had) else came)
@@ -201,8 +207,17 @@ def left_from(part: typing.Callable[[Sizes], range]) -> Method:
     return combine
 
 
+def once(_self: Receiver, _right: Method, process: Process, bits: str | None) -> str | None:
+    """A block that was handed up, at its first time alone."""
+    found = None if bits == process.sticking else bits
+    process.sticking = bits or process.sticking
+    return found
+
+
 def of_processes() -> typing.Iterator[Mistake]:
-    """Processes that share a buffer, and what a fresh block clears."""
+    """Processes that share a buffer, what a fresh block clears, and a block that is sent again."""
+    yield kind("processes", "38.321, 5.3.2.2", "a block is handed up once, and nothing if it is sent again",
+               "answer it after each transmission, until a fresh block begins", answered=once)
     for count in range(2, 16):
         for words, taken in ((f"processes share a soft buffer: p and p mod {count}", lambda it, count: it % count),
                              (f"processes share a soft buffer: all from {count} on", min)):

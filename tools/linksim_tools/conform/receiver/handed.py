@@ -11,22 +11,13 @@ if typing.TYPE_CHECKING:
     from linksim_tools.conform.receiver.suite import Suite
 
 
-def words_of(bits: str, size: int) -> list[str]:
-    """The bits in words of this size."""
-    return [bits[at : at + size] for at in range(0, len(bits), size)]
-
-
-def octets_in_words(size: int) -> typing.Callable[[str], str]:
-    """The octets of each word in the other order."""
-    return lambda bits: "".join("".join(words_of(word, 8)[::-1]) for word in words_of(bits, size))
-
-
-CHANGES: dict[str, typing.Callable[[str], str]] = {
+CHANGES: dict[str, lists.Order] = {
     "each octet begins with its lowest bit": lists.each_octet_reversed,
-    "the octets stand in the other order": lambda bits: "".join(words_of(bits, 8)[::-1]),
-    "all bits stand in the other order": lambda bits: bits[::-1],
+    "the octets stand in the other order": lists.octets_backwards,
+    "all bits stand in the other order": lists.backwards,
     "all bits are inverted": lists.inverted,
-    **{f"the octets of each word of {size} bits stand in the other order": octets_in_words(size) for size in (16, 32, 64)},
+    **{f"the octets of each word of {size} bits stand in the other order": lists.in_words(size, lists.octets_backwards)
+       for size in (16, 32, 64)},
     "its last octet is 0": lambda bits: bits[:-8] + "0" * 8,
     "its first octet is 0": lambda bits: "0" * 8 + bits[8:],
     "its last octet is missing": lambda bits: bits[:-8],

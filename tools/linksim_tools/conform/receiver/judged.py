@@ -53,31 +53,35 @@ def soft_of(texts: tuple[str, ...], a: int, rate2048: int) -> tuple[str, ...]:
     return tuple(text[:first] + "0" * len(text[first:last]) + text[last:] for text in texts)
 
 
+def block(answer: Answer, meant: str) -> str:
+    """The word of the block of an answer."""
+    return NONE if answer.delivered is None else MEANT if answer.delivered == meant else digest(answer.delivered)
+
+
 def shown(answer: Answer, meant: str, told: Arrival) -> tuple[str, ...]:
     """An answer as a suite keeps it, a word a level."""
-    block = NONE if answer.delivered is None else MEANT if answer.delivered == meant else digest(answer.delivered)
     return (
-        block,
+        block(answer, meant),
         "" if answer.passed is None else answer.passed,
         "" if answer.info is None else digest_of(answer.info),
         "" if answer.soft is None else digest_of(soft_of(answer.soft, told.a, told.rate2048), least_soft(told)),
     )
 
 
-def one_by_one(receiver: Receiver, case: Case) -> typing.Iterator[tuple[str, ...]]:
+def taken(receiver: Receiver, case: Case) -> typing.Iterator[Answer]:
     """What a receiver answers to each transmission of a case. What it cannot take, it does not deliver."""
-    for told, values, meant in zip(case.arrivals, case.values, case.meant):
+    for told, values in zip(case.arrivals, case.values):
         try:
             answer = receiver.take(told, octets_of(values))
         except FAULTS:
-            answer, receiver.clash = NOTHING, True
-        yield shown(answer, meant, told)
+            answer, receiver.faulty = NOTHING, True
+        yield answer
 
 
 def answers(tables: steps.Tables, wrong: frozenset[str], case: Case) -> tuple[Shown, bool]:
     """The same of a receiver with these mistakes, and whether some row was not met."""
     receiver = receiver_with(wrong)(tables)
-    return tuple(one_by_one(receiver, case)), receiver.clash
+    return tuple(map(shown, taken(receiver, case), case.meant, case.arrivals)), receiver.clash
 
 
 def everyone(

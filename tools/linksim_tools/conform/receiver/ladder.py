@@ -48,10 +48,12 @@ def failing(suite: Suite, answers: Answers) -> list[str]:
     return [name for name in of.judged if of.fails(name)]
 
 
-def lines(suite: Suite, failing: dict[Level, list[str]]) -> list[str]:
-    """What is told of all levels, of the cases that fail at each, weak ones first."""
+def lines(suite: Suite, failing: dict[Level, list[str]], whole: typing.Collection[str]) -> list[str]:
+    """What is told of all levels, weak ones first: which of the cases that were answered to the end at each fail."""
+    failing = {level: [name for name in names if name in whole] for level, names in failing.items()}
     levels, counts = [it.strong for it in failing], [len(it) for it in failing.values()]
-    made = [f"levels {listed(levels)}: {listed(counts)} cases fail"]
+    known = f", of {len(whole)} that are answered at each" if len(whole) < len(suite.cases) else ""
+    made = [f"levels {listed(levels)}: {listed(counts)} cases fail{known}"]
     weakest, strongest = (set([*failing.values()][at]) for at in (0, -1))
     for words, some, others, ordered in (("from", strongest, weakest, [*failing]), ("up to", weakest, strongest, [*failing][::-1])):
         more = sorted(some - others, key=[*suite.cases].index)

@@ -15,8 +15,6 @@ from linksim_tools.conform.receiver.told import Arrival, Case
 if typing.TYPE_CHECKING:
     from linksim_tools.conform.receiver.chain import Receiver
 
-RIGHT: frozenset[str] = frozenset()
-
 
 # Which columns are wanted: the lowest first. A column counts from the first parity one.
 def early(t: int, column: int, copy: int) -> typing.Any:
@@ -77,7 +75,7 @@ TIGHT = (early, extension, parity, even, late)
 
 def codewords(a: int, rate2048: int) -> steps.Sizes:
     """The right sizes of a block."""
-    return steps.sizes(a, rate2048, RIGHT)
+    return steps.sizes(a, rate2048, steps.RIGHT)
 
 
 def sized(

@@ -5,15 +5,14 @@ from __future__ import annotations
 
 import typing
 
-from linksim_tools.conform.receiver import made, plain, steps
+from linksim_tools.conform.receiver import made, plain
 from linksim_tools.conform.receiver.drafts import Draft
+from linksim_tools.conform.receiver.judged import FAULTS
 from linksim_tools.conform.receiver.level import octets_of
 from linksim_tools.conform.receiver.made import Maker
 from linksim_tools.conform.receiver.mistakes import MISTAKES
 from linksim_tools.conform.receiver.told import Arrival, Case
 
-# What a search for a mirror runs into if a mistake has no sense for these sizes.
-FAULTS = (steps.Impossible, IndexError, ValueError, ZeroDivisionError)
 ORDERS = (made.extension, made.early, made.parity, made.last, made.even)
 
 
@@ -82,7 +81,7 @@ def mirror(make: Maker, name: str, configurations: typing.Iterable[plain.Configu
                 continue
             tried += 1
             values = laid_for(make, name, draft, label, FEW if tried > 1 else TRIES)
-        except FAULTS:
+        except FAULTS:  # the mistake has no sense for these sizes
             continue
         if values is not None:
             what = f"only a receiver with {name} delivers it ({label})"

@@ -6,10 +6,8 @@ from __future__ import annotations
 import dataclasses
 import itertools
 import pathlib
-import re
-import tempfile
 
-from linksim_tools.common.program import Failed, output_of
+from linksim_tools.common.program import Failed, answers_of, settings_text
 from linksim_tools.conform import bits as lists
 from linksim_tools.conform.receiver import drafts, steps
 from linksim_tools.conform.receiver.chain import Receiver
@@ -116,27 +114,20 @@ def said(program: pathlib.Path, table: str, rounds: list[list[Record]]) -> list[
     blocks = list(dict.fromkeys(record.block for records in rounds for record in records))
     numbers = {block: number for number, block in enumerate(blocks, 1)}
     lines = [record.line(numbers[record.block]) for records in rounds for record in records]
-    with tempfile.TemporaryDirectory() as name:
-        folder = pathlib.Path(name)
-        limit = "" if told.lbrm is None else f"lbrm = {told.lbrm}\n"
-        (folder / "settings.toml").write_text(f"rate2048 = {told.rate2048}\n{limit}")
-        (folder / "blocks.txt").write_text("".join(f"{lists.hexadecimal(block)}\n" for block in blocks))
-        head = "block,rv,g,qm,nl,erase,flip,mask,process,fresh"
-        (folder / "schedule.csv").write_text("".join(f"{line}\n" for line in [head, *lines]))
-        words: list[str | pathlib.Path] = ["--table", table, "--settings", folder / "settings.toml"]
-        words += ["--blocks", folder / "blocks.txt", "--schedule", folder / "schedule.csv"]
-        ran, audited = (output_of(program, [command, *words]) for command in ("run", "audit"))
+    schedule = ["block,rv,g,qm,nl,erase,flip,mask,process,fresh", *lines]
+    texts = settings_text(told.rate2048, told.lbrm), list(map(lists.hexadecimal, blocks)), schedule
+    ran, audited = (answers_of(program, command, table, *texts) for command in ("run", "audit"))
     return read(ran, audited, [len(records) for records in rounds])
 
 
-def read(ran: str, audited: str, counts: list[int]) -> list[Outcome]:
-    """The outcomes of the texts of `run` and `audit`; `counts` are the transmissions of each round."""
-    if re.search("(?m)^refused", ran):
+def read(ran: list[str], audited: list[str], counts: list[int]) -> list[Outcome]:
+    """The outcomes of the lines of `run` and `audit`; `counts` are the transmissions of each round."""
+    if any(line.startswith("refused") for line in ran):
         raise Failed("the program refuses a transmission of a case: this is a fault of the tool")
     lefts: list[dict[int, int]] = []
     ends: list[list[str]] = []
     stuck: list[tuple[int, int, int] | None] = []
-    for line in ran.splitlines():
+    for line in ran:
         words = line.split()
         if words[0] == "left":
             left = lefts[-1] if words[3] != "0" else {}
@@ -145,7 +136,7 @@ def read(ran: str, audited: str, counts: list[int]) -> list[Outcome]:
             left[int(words[3])] = int(words[4])
         elif words[0] == "process":
             ends.append(words)
-    for line in audited.splitlines():
+    for line in audited:
         words = line.split()
         if words[4] == "0":
             stuck.append(None)

@@ -7,7 +7,6 @@ import typing
 from linksim_tools.conform import page as pages
 from linksim_tools.conform.page import escaped, paragraph
 from linksim_tools.conform.receiver import report as reporting
-
 from linksim_tools.conform.receiver.mistakes import MISTAKES
 
 if typing.TYPE_CHECKING:
@@ -31,9 +30,7 @@ def diagnosis(found: Finding) -> typing.Iterator[str]:
     yield from map(paragraph, reporting.head_lines(found))
     for names in found.names[: reporting.NAMED]:
         yield '<div class="mistake">'
-        for it in map(MISTAKES.__getitem__, names):
-            name, clause, wrong, change = map(escaped, (it.name, it.clause, it.wrong, it.change))
-            yield f"<p><code>{name}</code> ({clause}): {wrong}<br>\n<strong>Change:</strong> {change}</p>"
+        yield from pages.mistakes(map(MISTAKES.__getitem__, names))
         yield "</div>"
     more = len(found.names) - reporting.NAMED
     if more > 0:
@@ -41,19 +38,9 @@ def diagnosis(found: Finding) -> typing.Iterator[str]:
     yield from map(paragraph, reporting.next_lines(found))
 
 
-def table(made: reporting.Report) -> typing.Iterator[str]:
-    """The table of steps."""
-    yield "<table><tr><th>Step</th><th>pass</th><th>fail</th><th>not answered</th></tr>"
-    for step in made.steps.values():
-        yield pages.row(step.kind, step.name, (step.passing, len(step.failing), step.not_answered))
-    yield "</table>"
-
-
 def body(made: reporting.Report) -> typing.Iterator[str]:
     """What the file has below its title."""
-    suite = made.suite
-    yield f"<p>Suite <code>{escaped(suite.profile)}</code>: {len(suite.cases)} cases, {made.answered} answered.</p>"
-    yield from table(made)
+    yield from pages.table(made)
     for line in (*made.troubles, *made.notes):
         yield f"<pre>{escaped(line)}</pre>"
     if made.first:

@@ -49,10 +49,10 @@ class Pairs:
         right = against = clash = 0
         for place, name in enumerate(self.names):
             kept, bit = self.of.suite.cases[name], 1 << place
-            answers, contradicts = kept.answers(mistake)
+            costs = self.of.costs(name, (0,))
             right |= bit * (mistake not in kept.wrong)
-            against |= bit * (not self.of.agrees(answers, name))
-            clash |= bit * contradicts
+            against |= bit * (costs.get(mistake, costs[""]) > 0)
+            clash |= bit * kept.answers(mistake)[1]
         return Alone(right, against, clash)
 
     def foreseen(self, one: str, other: str) -> int:

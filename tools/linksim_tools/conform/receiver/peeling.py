@@ -4,7 +4,6 @@ are right in sign or 0 is found so. It takes as many rounds as the decoder needs
 
 from __future__ import annotations
 
-import copy
 import dataclasses
 import functools
 import operator
@@ -25,16 +24,27 @@ class Rows:
 
     def __init__(self, z: int, columns: int, rows: typing.Sequence[Row]) -> None:
         self.z, self.columns, self.rows = z, columns, rows
-        self.masks = [*map(mask_of, rows)]
-        self.of_columns: list[list[int]] = [[] for _ in range(columns)]
-        for number, row in enumerate(rows):
-            for column in sorted({column for column, _ in row}):
-                self.of_columns[column].append(number)
+
+    @functools.cached_property
+    def are_reduced(self) -> bool:
+        """Whether no shift is above the lifting size: such a one is a fault where it is used."""
+        return all(shift <= self.z for row in self.rows for _, shift in row)
+
+    @functools.cached_property
+    def masks(self) -> list[int]:
+        return [*map(mask_of, self.rows)]
+
+    @functools.cached_property
+    def of_columns(self) -> list[list[int]]:
+        found: list[list[int]] = [[] for _ in range(self.columns)]
+        for number, row in enumerate(self.rows):
+            for column in {column for column, _ in row}:
+                found[column].append(number)
+        return found
 
     def with_row(self, number: int, row: Row) -> Rows:
         """The rows with another one in the place of one, and with a column more."""
-        made = copy.copy(self)
-        made.columns, made.rows = self.columns + 1, [*self.rows[:number], row, *self.rows[number + 1 :]]
+        made = Rows(self.z, self.columns + 1, [*self.rows[:number], row, *self.rows[number + 1 :]])
         made.masks = [*self.masks[:number], mask_of(row), *self.masks[number + 1 :]]
         made.of_columns = [*self.of_columns, [number]]
         return made
@@ -42,34 +52,52 @@ class Rows:
 
 @dataclasses.dataclass(frozen=True, eq=False)
 class Peeled:
-    """What is known in the end of each column, and which bits are ones. It also has whether some row is not met, and
-    after how many rounds nothing more was found."""
+    """What so many of the rows find: what is known of each column in the end, and which bits are ones. Then after how many
+    rounds nothing more was found."""
 
+    rows: Rows
+    used: int
     known: tuple[int, ...]
     ones: tuple[int, ...]
-    clash: bool
     rounds: int
+
+    @functools.cached_property
+    def clash(self) -> bool:
+        """Whether a row whose bits are all known has an odd number of ones. Few ask."""
+        z, most = self.rows.z, (1 << self.rows.z) - 1
+        for row in self.rows.rows[: self.used]:
+            known, total = most, 0
+            for column, shift in row:
+                here, ones = self.known[column], self.ones[column]
+                total ^= ones << shift ^ ones >> (z - shift)
+                if here != most:
+                    known &= here << shift | here >> (z - shift)
+            if total & known:
+                return True
+        return False
 
 
 class Peeler:
-    """A codeword of which some bits are known; the first `held` columns are never fixed."""
+    """A codeword of which some bits are known; the first `held` columns are never fixed. `giving` are the rows that fixed a bit
+    first."""
 
     def __init__(self, rows: Rows, used: int, known: tuple[int, ...], ones: tuple[int, ...], held: int = 0) -> None:
         self.rows, self.used, self.held = rows, used, held
         self.most = (1 << rows.z) - 1
         self.unknown = [self.most & ~it for it in known]
         self.ones = list(ones)
+        self.giving: set[int] = set()
         # A bit for each column of which something is not known, and of which nothing is.
         self.open = sum([1 << column for column, it in enumerate(self.unknown) if it])
         self.empty = sum([1 << column for column, it in enumerate(self.unknown) if it == self.most])
 
-    def singles(self, number: int) -> typing.Iterator[tuple[int, int, int]]:
+    def singles(self, number: int) -> list[tuple[int, int, int]]:
         """The bits that a row fixes: columns, each with the places and with those that are ones."""
-        z, most, row = self.rows.z, self.most, self.rows.rows[number]
+        z, most, row, unknown = self.rows.z, self.most, self.rows.rows[number], self.unknown
         once = twice = 0
         turned = []
         for column, shift in row:
-            missing = self.unknown[column]
+            missing = unknown[column]
             if missing:
                 missing = (missing << shift | missing >> (z - shift)) & most
                 twice |= once & missing
@@ -77,8 +105,8 @@ class Peeler:
                 turned.append((column, shift, missing))
         single = once & ~twice
         if not single:
-            return
-        total = 0
+            return []
+        total, found = 0, []
         for column, shift in row:
             ones = self.ones[column]
             total ^= ones << shift ^ ones >> (z - shift)
@@ -86,13 +114,14 @@ class Peeler:
             here = missing & single
             if here and column >= self.held:
                 bits = here & total
-                yield column, (here >> shift | here << (z - shift)) & most, (bits >> shift | bits << (z - shift)) & most
+                found.append((column, (here >> shift | here << (z - shift)) & most, (bits >> shift | bits << (z - shift)) & most))
+        return found
 
-    def hopeful(self, number: int) -> bool:
-        """Whether a row may fix a bit: something of its columns is open, and not two of them altogether."""
-        mask = self.rows.masks[number]
-        left = mask & self.empty
-        return bool(mask & self.open) and not left & (left - 1)
+    def hopeful(self, numbers: typing.Iterable[int]) -> list[int]:
+        """Those of these rows that may fix a bit: something of their columns is open, and not two of them altogether."""
+        masks, open_, empty = self.rows.masks, self.open, self.empty
+        lefts = [(number, masks[number] & empty) for number in numbers if masks[number] & open_]
+        return [number for number, left in lefts if not left & (left - 1)]
 
     def fix(self, column: int, places: int, ones: int) -> int:
         """Takes these places of a column as known, and answers those that were not."""
@@ -104,20 +133,6 @@ class Peeler:
             self.open &= ~(0 if self.unknown[column] else 1 << column)
         return new
 
-    def clashes(self) -> bool:
-        """Whether a row whose bits are all known has an odd number of ones."""
-        z, most = self.rows.z, self.most
-        for row in self.rows.rows[: self.used]:
-            open_ = total = 0
-            for column, shift in row:
-                missing, ones = self.unknown[column], self.ones[column]
-                total ^= ones << shift ^ ones >> (z - shift)
-                if missing:
-                    open_ |= missing << shift | missing >> (z - shift)
-            if total & most & ~open_:
-                return True
-        return False
-
     def spread(self, most: int | None = None) -> int:
         """Rounds in each of which all rows see what was known before it, at most so many, or until nothing is found. It says how
         many these were."""
@@ -125,11 +140,13 @@ class Peeler:
         todo: typing.Iterable[int] = range(self.used)
         rounds = 0
         while most is None or rounds < most:
-            found = [it for number in todo if self.hopeful(number) for it in self.singles(number)]
-            changed = {column for column, places, ones in found if self.fix(column, places, ones)}
-            if not changed:
+            found = [(number, *it) for number in self.hopeful(todo) for it in self.singles(number)]
+            gave = [(number, column) for number, column, places, ones in found if self.fix(column, places, ones)]
+            if not gave:
                 break
             rounds += 1
+            self.giving |= {number for number, _ in gave}
+            changed = {column for _, column in gave}
             todo = sorted({number for column in changed for number in of_columns[column] if number < self.used})
         return rounds
 
@@ -137,7 +154,7 @@ class Peeler:
         """One pass over the rows one after the other; says whether something was found."""
         changed = False
         for number in range(self.used):
-            for column, places, ones in list(self.singles(number)):
+            for column, places, ones in self.singles(number):
                 changed |= bool(self.fix(column, places, ones))
         return changed
 
@@ -164,13 +181,17 @@ def peeled(
     """What is found in at most so many rounds; what was asked before is not computed again."""
     made = Peeler(rows, used, known, ones, held)
     rounds = made.spread(most)
-    return Peeled(tuple(made.most & ~it for it in made.unknown), tuple(made.ones), made.clashes(), rounds)
+    found = Peeled(rows, used, tuple([made.most & ~it for it in made.unknown]), tuple(made.ones), rounds)
+    if not rows.are_reduced:
+        # A shift above Zc is a fault at once, wherever a row with one is looked at.
+        _ = found.clash
+    return found
 
 
 @functools.lru_cache(1024)
 def columns_of(text: str, z: int) -> tuple[int, ...]:
     """The columns of a text of digits 0 and 1."""
-    return tuple(int(text[at : at + z], 2) for at in range(0, len(text), z))
+    return tuple([int(text[at : at + z], 2) for at in range(0, len(text), z)])
 
 
 def text_of(columns: typing.Iterable[int], z: int) -> str:

@@ -22,7 +22,6 @@ if typing.TYPE_CHECKING:
 
 # How many mistakes that fit are named.
 NAMED = 4
-RIGHT: frozenset[str] = frozenset()
 
 
 @dataclasses.dataclass(frozen=True)
@@ -77,7 +76,7 @@ def block_words(block: str | None) -> str:
 def position(kept: Kept, tx: int, r: int, place: int) -> str:
     """A place of d in the terms of the clauses."""
     told = kept.case.arrivals[tx]
-    sizes = steps.sizes(told.a, told.rate2048, RIGHT)
+    sizes = steps.sizes(told.a, told.rate2048, steps.RIGHT)
     column, bit = divmod(place + 2 * sizes.z, sizes.z)
     return f"place {place} of d of code block {r} (column j = {column}, bit t = {bit} of Zc = {sizes.z})"
 
@@ -141,16 +140,13 @@ def info_lines(found: tuple[str, ...], right: tuple[str, ...]) -> typing.Iterato
             return
 
 
-def first_of(suite: Suite, answers: Answers, name: str) -> First:
+def first_of(of: Diagnosis, answers: Answers, name: str) -> First:
     """The first difference of a case."""
-    kept = suite.cases[name]
-    right = judged.right_answers(suite.tables, kept.case)
-    for tx, (answer, wanted) in enumerate(zip(answers[name], right)):
-        lines = [] if answer is None else list(differences(kept, tx, answer, wanted))
-        if lines:
-            break
-    case = kept.case
-    shows = f"{name_of('conform')} receiver show {suite.path} {name}"
+    kept = of.suite.cases[name]
+    case, tx = kept.case, [*of.fits(name)].index(False)
+    answer, right = answers[name][tx], judged.right_answers(of.suite.tables, case)[tx]
+    lines = [] if answer is None else [*differences(kept, tx, answer, right)]
+    shows = f"{name_of('conform')} receiver show {of.suite.path} {name}"
     return First(case.step, name, lines, case.what, tx, len(case.arrivals), about(case.arrivals[tx]), shows)
 
 
@@ -178,10 +174,12 @@ def finding_of(found: Finding) -> Object:
             "told_apart_by": found.apart, "cut_short": found.cut_short}
 
 
-def told_of(of: Diagnosis, answers: Answers) -> Finding:
+def told_of(of: Diagnosis, answers: Answers, failing: list[str]) -> Finding:
     """What was found; if all wrong blocks come from the right ones in one way, that."""
     change = handed.change(of.suite, answers)
-    return Finding("handed", handed=change) if change else of.finding()
+    if change:
+        return Finding("handed", handed=change)
+    return Finding("long") if set(failing).isdisjoint(of.judged) else of.finding()
 
 
 def report(
@@ -197,8 +195,8 @@ def report(
     if not failing:
         made.doubts = doubts.of_cases(of)
         return made
-    made.first = first_of(suite, answers, failing[0])
-    found, common = told_of(of, answers), doubts.of_failing(of, failing)
+    made.first = first_of(of, answers, failing[0])
+    found, common = told_of(of, answers, failing), doubts.of_failing(of, failing)
     if found.fits or found.kinds or not common:
         made.diagnosis = found
     if common and (not found.fits or found.names[0][0].startswith("iterations")):
@@ -231,7 +229,7 @@ def head_lines(found: Finding) -> typing.Iterator[str]:
     elif found.kind == "handed":
         yield f"diagnosis: each block that is handed up wrongly is the right one, but {found.handed}"
     elif found.kind == "pairs":
-        yield "diagnosis: no known mistake alone gives these answers; two together give them:"
+        yield "diagnosis: no known mistake alone gives these answers; two together give them, as one that is not listed may:"
     elif found.kind == "gives":
         yield f"diagnosis: {shared.what_gives(found.names)} the blocks of all cases{but}"
     elif found.kind == "one":
@@ -243,6 +241,8 @@ def head_lines(found: Finding) -> typing.Iterator[str]:
         yield f"diagnosis: it loses the same blocks as {name}, but is not {name}: `{found.contradicted[0]}` of {found.contradicted[1]}"
     elif found.kind == "told":
         yield "diagnosis: none of the known mistakes, but:"
+    elif found.kind == "long":
+        yield "diagnosis: only the longest cases fail, which no mistake is held to: look for a number of too few bits, as r"
     elif found.kind == "right":
         yield "diagnosis: all blocks are right, and no known mistake gives what else was answered"
     else:
@@ -293,7 +293,7 @@ def iteration_lines(found: Iterations | None) -> typing.Iterator[str]:
     flood, layers = found.delivered
     of = f"of {found.known} patterns with a known depth"
     if not found.is_limited:
-        yield f"iterations: {of} it delivers all, the deepest of which takes {flood} rounds of flooding ({layers} of layers)"
+        yield f"iterations: {of} it delivers the deepest, which takes {flood} rounds of flooding ({layers} of layers)"
     else:
         least = f"all of up to {found.all_up_to[0]} rounds ({found.all_up_to[1]} of layers) and " if found.all_up_to else ""
         yield f"iterations: {of} it delivers {least}none of more than {flood} rounds of flooding ({layers} of layers)"
@@ -302,8 +302,6 @@ def iteration_lines(found: Iterations | None) -> typing.Iterator[str]:
 def text(made: Report) -> typing.Iterator[str]:
     """The lines of the report for a terminal."""
     yield from made.head_lines()
-    yield from made.troubles
-    yield from made.notes
     if made.first:
         yield from first_lines(made.first, made.failing)
     if made.diagnosis:

@@ -55,9 +55,9 @@ def lowest(size: int) -> Soft:
 @functools.lru_cache(1024)
 def gathered(places: Places, values: bytes, size: int) -> Soft:
     """The sum of the values that arrive at each place of a codeword; place -1 is none."""
-    found = Soft(empty(size + 1))
-    for number in itertools.compress(range(len(places)), values.translate(ARRIVES)):
-        found[places[number]] += values[number] - ZERO
+    found, arrives = Soft(empty(size + 1)), values.translate(ARRIVES)
+    for place, value in zip(itertools.compress(places, arrives), itertools.compress(values, arrives)):
+        found[place] += value - ZERO
     found.pop()
     return found
 

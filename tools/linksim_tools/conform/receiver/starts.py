@@ -58,8 +58,8 @@ def start(of: Diagnosis, failing: list[str]) -> Start | None:
             names = having(of, graph, version)
             if version and len(failing) > 1 and set(failing) <= set(names):
                 ordered = sorted(names, key=lambda name: name not in failing)
-                fitting = [number for number in range(columns) if number != right
-                           and all(of.given_by(with_start(graph, version, number), name) for name in ordered)]
+                kinds = {number: with_start(graph, version, number) for number in range(columns) if number != right}
+                fitting = [number for number, kind in kinds.items() if all(of.given_by(kind, name) for name in ordered)]
                 if 0 < len(fitting) <= MOST:
                     return Start(graph, version, right, sorted(fitting, key=lambda number: abs(number - right)))
     return None

@@ -30,6 +30,7 @@ LDPC = frozenset(it.name for it in MISTAKES.values() if it.step == "ldpc")
 # The first of the characters that stand for places of d, and the place of each character.
 MARK = 0x100
 PLACES = [-1] * MARK + [*range(max(it.columns for it in GRAPHS.values()) * max(LARGEST))]
+MARKS = "".join(map(chr, range(MARK, len(PLACES))))
 
 
 @functools.lru_cache(None)
@@ -39,6 +40,7 @@ def clauses(wrong: Wrong) -> chain.Clauses:
     return clauses_of(frozenset(it for it in named if it))
 
 
+@functools.lru_cache(4096)
 def among(wrong: Wrong, names: frozenset[str], step: str) -> Wrong:
     """Those of these mistakes that have one of these names, or are not known ones of this step."""
     return frozenset(it for it in wrong if (it in names if isinstance(it, str) else it.step == step)) if wrong else wrong
@@ -51,6 +53,10 @@ class Sizes(Plan):
     filled: range
     info: range
 
+    def __hash__(self) -> int:
+        """Of the few numbers that tell almost all apart: sizes are looked up often."""
+        return hash((self.a, self.graph, self.z, self.filled))
+
     @property
     def size(self) -> int:
         """How many places a codeword has, with those that are never sent."""
@@ -61,8 +67,7 @@ class Sizes(Plan):
 def sizes(a: int, rate2048: int, wrong: Wrong) -> Sizes:
     """The sizes of a block (5.2.2, 6.2.2, 7.2.2)."""
     it = clauses(wrong)
-    b = a + it.polynomial(it.crc_of_block(a))[0]
-    plan = it.plan(it.base_graph(a, rate2048), a, b, {})
+    plan = it.plan_of(a, rate2048)
     if plan.kdash > plan.k:
         raise Impossible("more bits than columns")
     numbers = {name: getattr(plan, name) for name in PLAN}
@@ -74,7 +79,7 @@ def sizes(a: int, rate2048: int, wrong: Wrong) -> Sizes:
 @functools.lru_cache(None)
 def marks(until: int) -> str:
     """A character for each place before this one."""
-    return "".join([chr(MARK + place) for place in range(until)])
+    return MARKS[:until]
 
 
 @functools.lru_cache(1024)
@@ -96,9 +101,15 @@ def start(of: Sizes, ncb: int, version: int, wrong: Wrong) -> int:
 
 def lengths(of: Sizes, told: Arrival, wrong: Wrong) -> list[int]:
     """E_r of each code block (5.4.2.1)."""
-    scheduled = told.scheduled(of.c)
+    return [*lengths_of(of.c, told, wrong)]
+
+
+@functools.lru_cache(4096)
+def lengths_of(c: int, told: Arrival, wrong: Wrong) -> tuple[int, ...]:
+    """The same of so many code blocks."""
+    scheduled = told.scheduled(c)
     sent = Case("", "", told.rate2048, told.lbrm, told.rv, told.g, told.qm, told.nl)
-    return clauses(wrong).lengths(sent, of.c, scheduled) if scheduled else [0] * of.c
+    return tuple(clauses(wrong).lengths(sent, c, scheduled)) if scheduled else (0,) * c
 
 
 class Places(typing.Tuple[int, ...]):

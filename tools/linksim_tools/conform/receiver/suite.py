@@ -4,21 +4,15 @@ character each. It also has what is right after each of them, and what receivers
 from __future__ import annotations
 
 import dataclasses
-import json
 import pathlib
-import sys
-import typing
 
-from linksim_tools.common.program import Failed, name_of
+from linksim_tools.common.program import Failed
 from linksim_tools.conform import bits as lists
 from linksim_tools.conform import code, files
-from linksim_tools.conform.receiver import apart, design, judged, keeping, oracle, steps
-from linksim_tools.conform.receiver.level import octets_of
-from linksim_tools.conform.receiver.made import Maker
-from linksim_tools.conform.receiver.mistakes import MISTAKES
+from linksim_tools.conform.receiver import keeping, steps
 from linksim_tools.conform.receiver.mistakes.listed import DOUBT, STEPS
 from linksim_tools.conform.receiver.judged import Shown
-from linksim_tools.conform.receiver.told import LONG, Arrival, Case
+from linksim_tools.conform.receiver.told import Arrival, Case
 
 # What a case of a suite has of a transmission beside its values.
 TOLD = ("process", "fresh", "a", "rate2048", "lbrm", "rv", "g", "qm", "nl", "mask")
@@ -72,60 +66,6 @@ def told_of(told: Arrival) -> files.Object:
     return {**found, "fresh": int(told.fresh), "mask": mask}
 
 
-def line_of(kept: Kept) -> str:
-    """The line of a case."""
-    case = kept.case
-    each = zip(case.arrivals, case.values, case.meant, kept.right, kept.also, kept.proved)
-    sent = [
-        {**told_of(told), "values": values, "block": lists.hexadecimal(meant), "right": right, **({"also": also} if also else {}),
-         "proved": proved}
-        for told, values, meant, right, also, proved in each
-    ]
-    groups: dict[tuple[Shown, bool], list[str]] = {}
-    for name, found in kept.wrong.items():
-        groups.setdefault(found, []).append(name)
-    wrong = [{"mistakes": names, "answers": answers, "clash": clash} for (answers, clash), names in groups.items()]
-    head = {"id": case.id, "step": case.step, "what": case.what, "mirror": case.mirror, "rounds": case.rounds}
-    return json.dumps({**head, "clash": kept.clash, "known": kept.known, "transmissions": sent, "wrong": wrong})
-
-
-def kept_of(tables: steps.Tables, case: Case, found: apart.Found, proved: list[oracle.Outcome]) -> Kept | None:
-    """A case with what all answer. The model without a mistake is held to the program's outcomes: other blocks are a fault. A
-    case in which they leave other bits open is left out, and None."""
-    right, clash = found[""]
-    for answer, outcome in zip(judged.right_answers(tables, case), proved):
-        if answer.delivered != outcome.block:
-            fault = "this is a fault of the program or of the tool"
-            raise Failed(f"case {case.id}: the model and the program hand up other blocks: {fault}")
-        if tuple(info.count("?") for info in answer.info or ()) != outcome.left:
-            print(f"the model and the program leave other bits open in {case.id}, which is left out", file=sys.stderr)
-            return None
-    wrong = {name: it for name, it in found.items() if name and it != (right, clash)}
-    accepted = keeping.also(tables, case, right)
-    return Kept(case, right, tuple(it.words() for it in proved), wrong, accepted, clash, len(found) > 1)
-
-
-def written(
-    program: pathlib.Path, path: str, profile: str, seed: int, known: typing.Collection[str] = MISTAKES
-) -> list[str]:
-    """The lines of a suite, all of which are there before one is written. It has what receivers with each of the known mistakes
-    answer."""
-    entries = files.table_of(program, path)
-    tables = steps.Tables(entries)
-    cases, left_out = design.designed(tables, profile, seed)
-    found = [judged.everyone(tables, known if case.size <= LONG else (), case) for case in cases]
-    if profile == "quick" and known:
-        apart.sharper(Maker(tables, seed), cases, found, design.MOST)
-    proved = oracle.outcomes(program, path, tables, [(it, [octets_of(text) for text in it.values]) for it in cases])
-    kept = [kept_of(tables, *it) for it in zip(cases, found, proved)]
-    left_out += [case.id for case, it in zip(cases, kept) if it is None]
-    lines = [line_of(it) for it in kept if it is not None]
-    head: files.Object = {"receiver": files.FORMAT, "profile": profile, "seed": seed, "cases": len(lines)}
-    head.update({"left_out": left_out} if left_out else {})
-    made = {"made": files.made_by(program, path), "table": code.records_of(entries)}
-    return [json.dumps({**head, **made}), *lines]
-
-
 def case_of(value: files.Object) -> Kept:
     """A case of an object of the suite."""
     arrivals, values, meant = [], [], []
@@ -152,27 +92,17 @@ def case_of(value: files.Object) -> Kept:
     return Kept(case, right, proved, wrong, also, bool(value["clash"]), bool(value["known"]))
 
 
-def head_of(path: str | pathlib.Path, line: str) -> files.Object:
-    """The head of a suite, of its first line."""
-    head = files.json_line(path, 1, line) if line else {}
-    if head.get("receiver") == files.FORMAT and {"table", "cases", "profile", "seed", "made"} <= head.keys():
-        return head
-    other = "; it is a suite for encoders" if "conform" in head else ""
-    made = f"{name_of('conform')} receiver suite"
-    raise Failed(f"{path} is no suite for receivers: its first line is not what {made} writes{other}")
-
-
 def read(path: str | pathlib.Path) -> Suite:
     """A suite file."""
     lines = files.numbered_lines(path)
-    head = head_of(path, next(lines, (1, ""))[1])
+    head = files.head_of(path, next(lines, (1, "")), "receiver", {"table", "cases", "profile", "seed", "made"})
     tables = steps.Tables(code.tables_of(path, head["table"]))
     cases = {}
     for number, line in lines:
         value = files.json_line(path, number, line)
         try:
             kept = case_of(value)
-        except (KeyError, TypeError, ValueError, IndexError, AttributeError) as error:
+        except (LookupError, TypeError, ValueError, ArithmeticError, AttributeError) as error:
             raise Failed(f"{path} line {number}: no case of a suite: {error}") from None
         cases[kept.case.id] = kept
     if len(cases) != head["cases"]:

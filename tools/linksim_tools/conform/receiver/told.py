@@ -65,3 +65,7 @@ class Case:
     def size(self) -> int:
         """How many values arrive."""
         return sum(map(len, self.values))
+
+    def has(self, characters: str) -> bool:
+        """Whether some value is one of these."""
+        return any(it in text for text in self.values for it in characters)

@@ -35,16 +35,17 @@ class Trials:
     def __init__(self, of: Diagnosis, failing: list[str]) -> None:
         self.of, self.first, self.work = of, failing[0], 0
         self.told = {**dict.fromkeys(of.judged, 1), **dict.fromkeys(failing, LIKELY)}
+        self.sizes = {name: of.suite.cases[name].case.size for name in of.judged}
         self.order = sorted(of.judged, key=self.cost)
 
     def cost(self, name: str) -> float:
         """How many values a case has for each mistake that it told away."""
-        return 0 if name == self.first else self.of.suite.cases[name].case.size / self.told[name]
+        return 0 if name == self.first else self.sizes[name] / self.told[name]
 
     def fit(self, it: Mistake) -> bool:
         """Whether a mistake gives what was answered to all cases."""
         for name in self.order:
-            self.work += self.of.suite.cases[name].case.size
+            self.work += self.sizes[name]
             if not self.of.given_by(it.made, name):
                 if name != self.first:
                     self.told[name] += 1
