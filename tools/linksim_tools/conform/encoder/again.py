@@ -40,10 +40,10 @@ class Again:
             run.end()
         return run.there.get(names[-1])
 
-    def is_right(self, name: str, answer: Answer | None) -> bool:
+    def is_right(self, name: str, answer: Answer) -> bool:
         """Whether all that was answered of a case is right."""
         right = self.suite.values[name]
-        return answer is not None and all(same(it, getattr(answer, it), getattr(right, it)) for it in answer.names())
+        return all(same(it, getattr(answer, it), getattr(right, it)) for it in answer.names())
 
     def before(self, name: str, alone: Answer | None) -> str | None:
         """The case before this one after which another answer comes than alone; the nearest is tried first."""
@@ -57,7 +57,7 @@ class Again:
         alone = self.last(name)
         if self.last(name) != alone:
             return f"case {name} asked alone twice: two answers: the command is not deterministic"
-        said = "right" if self.is_right(name, alone) else "wrong"
+        said = "missing" if alone is None else "right" if self.is_right(name, alone) else "wrong"
         if alone != self.answered[name]:
             before = self.before(name, alone)
             after = f"after case {before} it is another" if before else "after the cases before it it was another"

@@ -6,8 +6,7 @@ import pathlib
 import typing
 
 from linksim_tools.conform import bits as lists
-from linksim_tools.conform.answer_lines import (SHOWN, Repeated, Wrong, is_answer, left_out, object_of, pairs_of,
-                                                shown, troubles_of)
+from linksim_tools.conform.answer_lines import Repeated, Wrong, object_of, pairs_of, taken_from
 from linksim_tools.conform.case import PLAN, Answer
 from linksim_tools.conform.files import Object
 
@@ -141,13 +140,7 @@ def answer_of(
     line: bytes, plain: bool, suite: Suite, there: typing.Collection[str], wanted: str | None = None
 ) -> tuple[str, Answer]:
     """The id and the values of a line; `there` was answered before it, and the case `wanted` was asked for."""
-    try:
-        value = object_of(line.decode(errors="replace"), from_words if plain else None)
-    except Wrong as wrong:
-        raise Wrong(f"{wrong}: {shown(line)}") from None
-    name = value.get("id")
-    if not isinstance(name, str):
-        raise Wrong("no id")
+    name, value = object_of(line, from_words if plain else None)
     if name in there:
         raise Repeated(f"case {name} was answered before")
     if name not in suite.cases:
@@ -163,14 +156,9 @@ def answer_of(
 def read(path: str | pathlib.Path, suite: Suite, plain: bool) -> tuple[dict[str, Answer], list[str], list[str]]:
     """The answers of a file by id, lines about what could not be judged, and notes."""
     there: dict[str, Answer] = {}
-    remarks: list[bytes] = []
 
     def take(line: bytes) -> None:
-        if is_answer(line):
-            name, values = answer_of(line, plain, suite, there)
-            there[name] = values
-        else:
-            remarks.append(line[:SHOWN])
+        name, values = answer_of(line, plain, suite, there)
+        there[name] = values
 
-    troubles = troubles_of(path, most_octets(suite), take)
-    return there, troubles, left_out(remarks)
+    return (there, *taken_from(path, most_octets(suite), take))

@@ -5,10 +5,9 @@ from __future__ import annotations
 import argparse
 import typing
 
-from linksim_tools.common.packing import PACKINGS
 from linksim_tools.common.program import add_program, program_at
 from linksim_tools.conform import record as recording
-from linksim_tools.conform.commands import Words, command_of, number_in, reported, written
+from linksim_tools.conform.commands import Words, command_of, reported, written
 from linksim_tools.conform.encoder import alike, design, plain, points
 from linksim_tools.conform.encoder import again as asking
 from linksim_tools.conform.encoder import answers as answering
@@ -17,7 +16,8 @@ from linksim_tools.conform.encoder import report as reporting
 from linksim_tools.conform.encoder import run as running
 from linksim_tools.conform.encoder import show as showing
 from linksim_tools.conform.encoder import suite as suites
-from linksim_tools.conform.steps import STEPS
+from linksim_tools.conform.packing import PACKINGS
+from linksim_tools.conform.steps import FIELDS
 from linksim_tools.rtl import beats, suite_files
 
 if typing.TYPE_CHECKING:
@@ -71,8 +71,8 @@ def judged(
 ) -> int:
     """Writes the report of these answers, and says the status."""
     made = reporting.report(suite, answers, troubles, notes)
-    made.required = tuple(given.require)
-    made.record = recording.record_of(words, suite.path, suite.profile, suite.seed, suite.made)
+    made.lacking = [*reporting.required(suite, answers, given.require)]
+    made.record = recording.record_of(words, suite)
     if getattr(given, "twice", False):
         failing = sorted({name for step in made.steps.values() for name in step.failing}, key=list(suite.cases).index)
         made.twice = asking.again(form_of(given), suite, answers, failing)
@@ -94,14 +94,6 @@ def run(given: argparse.Namespace) -> int:
     """Runs an encoder and judges what it answers."""
     form, suite = form_of(given), suites.read(given.suite)
     return judged(given, suite, *running.answers(form, suite), given.command)
-
-
-def step_of(text: str) -> str:
-    """A step by the name of an answer that shows it, or by its own."""
-    found = next((step for step, (_, fields) in STEPS.items() if text in (step, *fields)), None)
-    if found is None:
-        raise ValueError
-    return found
 
 
 def add_export(words: Words) -> None:
@@ -126,13 +118,11 @@ def add_suite(words: Words) -> None:
 def add_judges(words: Words) -> None:
     """Adds `check` and `run`."""
     one, two = words.add_judges(check, run, "an encoder")
-    two.add_argument("--skip", type=number_in(0, 1e6, int), default=5, metavar="N",
-                     help="starts the command anew where it stops, up to N times (5)")
     two.add_argument("--twice", action="store_true", help="asks failing cases again, alone and after themselves")
     two.add_argument("--pack", choices=PACKINGS, default="hex", help="how the block is written (hex)")
     for command in (one, two):
         command.add_argument(
-            "--require", type=step_of, action="append", default=[], metavar="NAME",
+            "--require", choices=FIELDS, action="append", default=[], metavar="NAME",
             help="status 1 if a case lacks this name of an answer, as sent (may be given several times)",
         )
 

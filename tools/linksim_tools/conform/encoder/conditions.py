@@ -73,28 +73,25 @@ YES_OR_NO: tuple[tuple[str, str, Test], ...] = (
 
 Number = typing.Callable[[Facts], int]
 
-# Numbers whose values are asked for one by one, before the properties above (VALUES) and after them (FURTHER). Those of
-# ORDERED are asked for from a value on, and those of MULTIPLES for whether they are whole words.
-VALUES: dict[str, Number] = {
+NUMBERS: dict[str, Number] = {
     "base graph": lambda it: it.graph, "set": lambda it: it.plan.set, "rv": lambda it: it.case.rv,
-    "Qm": lambda it: it.case.qm, "NL": lambda it: it.case.nl, "C": lambda it: it.c,
+    "Qm": lambda it: it.case.qm, "NL": lambda it: it.case.nl, "C": lambda it: it.c, "Kb": lambda it: it.plan.kb,
+    "Zc": lambda it: it.z, "A": lambda it: it.a, "2048 R": lambda it: it.rate, "B": lambda it: it.b,
+    "C'": lambda it: len(it.scheduled), "G": lambda it: it.case.g, "Ncb": lambda it: it.ncb,
+    "K'": lambda it: it.plan.kdash, "the largest E_r": lambda it: max(it.shares),
+    "TBS_LBRM": lambda it: it.case.lbrm or 0, "k0": lambda it: it.k0, "k0 + E_r": lambda it: it.k0 + max(it.shares),
+    "N": lambda it: it.plan.n, "the number of fillers": lambda it: it.fillers, "r": lambda it: it.scheduled[-1],
 }
-FURTHER: dict[str, Number] = {
-    "Kb": lambda it: it.plan.kb, "Zc": lambda it: it.z, "A": lambda it: it.a, "2048 R": lambda it: it.rate,
-    "B": lambda it: it.b, "C'": lambda it: len(it.scheduled), "G": lambda it: it.case.g,
-}
-ORDERED: dict[str, Number] = {
-    "Zc": lambda it: it.z, "A": lambda it: it.a, "B": lambda it: it.b, "2048 R": lambda it: it.rate,
-    "C": lambda it: it.c, "G": lambda it: it.case.g, "Ncb": lambda it: it.ncb, "K'": lambda it: it.plan.kdash,
-    "Qm": lambda it: it.case.qm, "rv": lambda it: it.case.rv, "the largest E_r": lambda it: max(it.shares),
-    "set": lambda it: it.plan.set, "TBS_LBRM": lambda it: it.case.lbrm or 0, "k0": lambda it: it.k0,
-    "k0 + E_r": lambda it: it.k0 + max(it.shares), "C'": lambda it: len(it.scheduled), "N": lambda it: it.plan.n,
-    "the number of fillers": lambda it: it.fillers, "r": lambda it: it.scheduled[-1],
-}
-MULTIPLES: dict[str, Number] = {
-    "A": lambda it: it.a, "B": lambda it: it.b, "K'": lambda it: it.plan.kdash, "Zc": lambda it: it.z,
-    "G": lambda it: it.case.g, "Ncb": lambda it: it.ncb,
-}
+
+# Those whose values are asked for one by one, before the properties above (VALUES) and after them (FURTHER). Those of
+# ORDERED are asked for from a value on, and those of MULTIPLES for whether they are whole words.
+VALUES = ("base graph", "set", "rv", "Qm", "NL", "C")
+FURTHER = ("Kb", "Zc", "A", "2048 R", "B", "C'", "G")
+ORDERED = (
+    "Zc", "A", "B", "2048 R", "C", "G", "Ncb", "K'", "Qm", "rv", "the largest E_r", "set", "TBS_LBRM", "k0", "k0 + E_r",
+    "C'", "N", "the number of fillers", "r",
+)
+MULTIPLES = ("A", "B", "K'", "Zc", "G", "Ncb")
 
 # What a step may depend on, first what it most likely does: conditions that cases do not tell apart stand in this order.
 ABOUT: dict[str, str] = {
@@ -141,11 +138,11 @@ def mask_of(flags: typing.Iterable[bool]) -> Cases:
     return int("".join("1" if flag else "0" for flag in flags)[::-1] or "0", 2)
 
 
-def values_of(facts: list[Facts], named: typing.Mapping[str, Number]) -> list[Property]:
+def values_of(facts: list[Facts], names: typing.Iterable[str]) -> list[Property]:
     """Each value of these numbers as a property."""
     found = []
-    for name, read in named.items():
-        numbers = [read(it) for it in facts]
+    for name in names:
+        numbers = [NUMBERS[name](it) for it in facts]
         for value in sorted(set(numbers)):
             found.append(Property(name_of(name, value), mask_of(it == value for it in numbers)))
     return found
@@ -163,8 +160,8 @@ def gap(name: str, right: int, wrong: int) -> str:
 def limits_of(facts: list[Facts]) -> list[Property]:
     """The limits of the numbers that have an order."""
     found = []
-    for name, read in ORDERED.items():
-        numbers = [read(it) for it in facts]
+    for name in ORDERED:
+        numbers = [NUMBERS[name](it) for it in facts]
         for value in sorted(set(numbers)):
             found.append(Property(f"{name} >= {value:,}", mask_of(it >= value for it in numbers), True))
             found.append(Property(f"{name} <= {value:,}", mask_of(it <= value for it in numbers), True))
@@ -179,9 +176,9 @@ def properties_of(facts: list[Facts]) -> list[Property]:
     for words, contrary, test in YES_OR_NO:
         yes = mask_of(test(it) for it in facts)
         found += [Property(words, yes), Property(contrary, whole & ~yes)]
-    for name, read in MULTIPLES.items():
+    for name in MULTIPLES:
         for width in (8, 16, 32, 64):
-            yes = mask_of(read(it) % width > 0 for it in facts)
+            yes = mask_of(NUMBERS[name](it) % width > 0 for it in facts)
             found.append(Property(f"{name} is no multiple of {width}", yes))
             found.append(Property(f"{name} is a multiple of {width}", whole & ~yes))
     found += [*values_of(facts, FURTHER), *limits_of(facts)]
@@ -227,15 +224,14 @@ class Common:
 
     def only(self, failing: typing.Iterable[str], bad: Cases, good: Cases, steps: typing.Collection[str]) -> Condition | None:
         """The value of a step's own number in a single case that fails."""
-        names = {OWN[step] for step in steps if step in OWN} if len(steps) == 1 else set()
-        facts = list(self.facts.values())
-        found = values_of(facts, {name: read for name, read in {**VALUES, **FURTHER}.items() if name in names})
+        names = [OWN[step] for step in steps if step in OWN] if len(steps) == 1 else []
+        found = values_of(list(self.facts.values()), names)
         return self.best([(it.words, it.cases) for it in found], bad, good, steps) if list(failing) else None
 
     def ranges(self, failing: typing.Collection[str], others: typing.Collection[str]) -> typing.Iterator[str]:
         """The limits and the ranges of numbers in which all failing cases are and no other, in words."""
-        for name, read in ORDERED.items():
-            bad, good = (sorted(read(self.facts[it]) for it in names) for names in (failing, others))
+        for name in ORDERED:
+            bad, good = (sorted(NUMBERS[name](self.facts[it]) for it in names) for names in (failing, others))
             below, above = ([it for it in good if it < bad[0]], [it for it in good if it > bad[-1]])
             if len(below) == len(good):
                 yield gap(name, below[-1], bad[0])

@@ -9,7 +9,7 @@ import typing
 
 from linksim_tools.common.graphs import GRAPHS
 from linksim_tools.conform.case import Case
-from linksim_tools.conform.clauses import plan_of, right
+from linksim_tools.conform.clauses import right
 from linksim_tools.conform.encoder.points import LIMITS, Facts, first_sizes
 
 PROFILES = ("quick", "full")
@@ -288,7 +288,7 @@ def several_whole(design: Designer) -> None:
 
 def pieces(graph: int, a: int) -> tuple[int, bool]:
     """C of a block in a base graph, and whether it can be cut into so many of one length."""
-    plan = plan_of(a, a + (24 if a > 3824 else 16), rate_for(graph, a))
+    plan = right().plan_of(a, rate_for(graph, a))
     return plan.c, (plan.b + plan.c * plan.l) % plan.c == 0
 
 

@@ -5,14 +5,13 @@ from __future__ import annotations
 import dataclasses
 import typing
 
-from linksim_tools.conform.encoder.judging import NOTHING, Trials
+from linksim_tools.conform.encoder.judging import NOTHING
 from linksim_tools.conform.encoder.search import Search
 from linksim_tools.conform.steps import STEPS
 
 if typing.TYPE_CHECKING:
-    from linksim_tools.conform.case import Answer
     from linksim_tools.conform.encoder.found import Found
-    from linksim_tools.conform.encoder.judging import Mistakes
+    from linksim_tools.conform.encoder.judging import Mistakes, Trials
     from linksim_tools.conform.encoder.suite import Suite
 
 # How many mistakes of a step are told one behind the other.
@@ -45,8 +44,3 @@ def diagnosis(suite: Suite, trials: Trials) -> list[Found]:
             more, base = of_step(search, step, base, failing, TOGETHER - 1)
             found += more
     return found
-
-
-def diagnosed(suite: Suite, answers: dict[str, Answer]) -> list[Found]:
-    """The same of answers by id."""
-    return diagnosis(suite, Trials(suite, answers))

@@ -11,6 +11,7 @@ from linksim_tools.conform.case import Plan
 from linksim_tools.conform.clauses import Impossible
 from linksim_tools.conform.encoder import shifted
 from linksim_tools.conform.encoder.judging import NOTHING, Trial, same
+from linksim_tools.conform.encoder.shifted import first_place
 from linksim_tools.conform.steps import STEPS
 
 # How many entries of a row are shown.
@@ -18,11 +19,6 @@ SHOWN = 24
 
 # How many bits are shown around the first that differs.
 AROUND = 32
-
-
-def first_place(found: typing.Sequence[object], right: typing.Sequence[object]) -> int:
-    """The first index at which two lists of bits differ."""
-    return next((it for it, (one, two) in enumerate(zip(found, right)) if one != two), min(len(found), len(right)))
 
 
 def listed(numbers: list[int]) -> str:

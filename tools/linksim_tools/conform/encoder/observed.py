@@ -97,14 +97,17 @@ def seen_in(step: str, trial: Trial) -> typing.Iterator[Seen]:
         else:
             parts = selected_bits(step, trial, made)
             first, length = made.of("k0"), made.of("Ncb")
+            if not 0 <= first < length <= min(map(len, words)):
+                return
             marks = [marked(d, e, first, length) for d, e in zip(words, parts or [])]
     except Impossible:
         return
     if len(marks) != len(words):
         return
     for text, d, info in zip(marks, words, bits):
-        known, wrong = masks(text, plan, KNOWN), masks(text, plan, WRONG)
-        yield Seen(plan, columns_of(word_of(info, d, plan), plan.z), known, wrong)
+        word = word_of(info, d, plan)
+        if len(word) == GRAPHS[plan.graph].columns * plan.z:
+            yield Seen(plan, columns_of(word, plan.z), masks(text, plan, KNOWN), masks(text, plan, WRONG))
 
 
 def are_few(kept: list[Seen], z: int) -> bool:
@@ -124,7 +127,8 @@ def groups_of(step: str, failing: list[Trial], passing: list[Trial]) -> dict[tup
             if not are_few(kept, z) or key not in found and trials is passing:
                 continue
             for seen in seen_in(step, trial):
-                kept = found.setdefault(key, [[], []])[0 if seen.bad else 1]
+                # What was answered counts: it may be another base graph than the right one.
+                kept = found.setdefault((seen.plan.graph, seen.plan.set), [[], []])[0 if seen.bad else 1]
                 if are_few(kept, z):
                     kept.append(seen)
             trial.forget()

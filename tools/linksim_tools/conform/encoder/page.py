@@ -63,28 +63,16 @@ def finding(made: Report, found: Found) -> typing.Iterator[str]:
         yield '<div class="mistake">' + "".join(map(paragraph, exact)) + "</div>"
     for fitting in found.fitting[:PAIRS]:
         yield '<div class="mistake">'
-        for it in sorted(fitting.mistakes, key=lambda it: it.name):
-            name, clause, wrong, change = map(escaped, (it.name, it.clause, it.wrong, it.change))
-            yield f"<p><code>{name}</code> ({clause}): {wrong}<br>\n<strong>Change:</strong> {change}</p>"
+        yield from page.mistakes(sorted(fitting.mistakes, key=lambda it: it.name))
         yield from map(paragraph, words.condition_lines(fitting) if len(found.fitting) > 1 else [])
         yield "</div>"
     yield from map(paragraph, [head, *(line for line in rest if line not in exact), *words.more(found)])
 
 
-def table(made: Report) -> typing.Iterator[str]:
-    """The table of steps."""
-    yield "<table><tr><th>Step</th><th>pass</th><th>fail</th><th>not answered</th></tr>"
-    for step in made.steps.values():
-        yield page.row(step.kind, step.name, (step.passing, len(step.failing), step.not_answered))
-    yield "</table>"
-    yield from pictures.chain([(step.name, step.kind) for step in made.steps.values()])
-
-
 def body(made: Report) -> typing.Iterator[str]:
     """What the file has below its title."""
-    profile = escaped(made.suite.profile)
-    yield f"<p>Suite <code>{profile}</code>: {len(made.suite.cases)} cases, {made.answered} answered.</p>"
-    yield from table(made)
+    yield from page.table(made)
+    yield from pictures.chain([(step.name, step.kind) for step in made.steps.values()])
     for line in (*made.troubles, *made.notes, *made.lacking, *made.twice):
         yield f"<pre>{escaped(line)}</pre>"
     if made.firsts:

@@ -9,7 +9,7 @@ import typing
 from linksim_tools.common.graphs import GRAPHS
 from linksim_tools.conform.case import Case, Plan
 from linksim_tools.conform.chain import Chain
-from linksim_tools.conform.clauses import SETS, plan_of, right
+from linksim_tools.conform.clauses import SETS, right
 from linksim_tools.conform.code import TablesKey
 from linksim_tools.conform.encoder.watched import mistakes_of
 
@@ -185,9 +185,8 @@ def first_sizes() -> dict[tuple[int, int], tuple[int, int, int]]:
     """The first and the last size A of each base graph and lifting size in one code block, and a code rate for it."""
     found: dict[tuple[int, int], tuple[int, int, int]] = {}
     for a in range(8, 8425, 8):
-        b = a + (24 if a > 3824 else 16)
         for rate in (2048, 512):
-            plan = plan_of(a, b, rate)
+            plan = right().plan_of(a, rate)
             if plan.c == 1:
                 first, _, _ = found.get((plan.graph, plan.z), (a, a, rate))
                 found[plan.graph, plan.z] = first, a, rate

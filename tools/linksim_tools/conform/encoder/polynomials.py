@@ -23,30 +23,20 @@ BLOCKS, BITS, AGREE = 24, 9000, 3
 
 # A list of bits with the parity bits after it.
 Block = typing.Tuple[str, str]
-Order = typing.Callable[[str], str]
 
 
 def as_it_is(bits: str) -> str:
     return bits
 
 
-def backwards(bits: str) -> str:
-    return bits[::-1]
-
-
-def octets_backwards(bits: str) -> str:
-    """The octets in reverse, each as it is."""
-    return "".join(bits[at : at + 8] for at in range(0, len(bits), 8)[::-1])
-
-
 # Orders of the bits that a register takes, and of the parity bits, each with words.
-INPUTS: dict[str, Order] = {
+INPUTS: dict[str, lists.Order] = {
     "": as_it_is, "the bits of each octet go in lowest first": lists.each_octet_reversed,
-    "the bits go in backwards": backwards,
+    "the bits go in backwards": lists.backwards,
 }
-OUTPUTS: dict[str, Order] = {
-    "": as_it_is, "the parity bits are sent lowest first": backwards,
-    "the octets of the parity bits are sent lowest first": octets_backwards,
+OUTPUTS: dict[str, lists.Order] = {
+    "": as_it_is, "the parity bits are sent lowest first": lists.backwards,
+    "the octets of the parity bits are sent lowest first": lists.octets_backwards,
     "the parity bits of each octet are sent lowest first": lists.each_octet_reversed,
 }
 

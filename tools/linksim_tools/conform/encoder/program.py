@@ -4,12 +4,10 @@ from __future__ import annotations
 
 import dataclasses
 import pathlib
-import tempfile
 import typing
 
 from linksim_tools.common import rate_matching
-from linksim_tools.common.program import Failed, output_of
-from linksim_tools.common.vector import HEADER, plan_of
+from linksim_tools.common.program import Failed, answers_of, output_of, plan_of, settings_text
 from linksim_tools.conform import bits as lists
 from linksim_tools.conform.case import PLAN, Case, Plan, Values, scheduled
 
@@ -43,20 +41,14 @@ def send(
     lines: list[tuple[int | str, ...]],
 ) -> typing.Iterator[str]:
     """The bits that the program sends for these lines of a schedule of the cases' blocks, and refuses for none."""
-    with tempfile.TemporaryDirectory() as name:
-        folder = pathlib.Path(name)
-        paths = {it: folder / it for it in ("settings", "blocks", "schedule")}
-        rate, limit = settings
-        paths["settings"].write_text(f"rate2048 = {rate}\n" + (f"lbrm = {limit}\n" if limit is not None else ""))
-        paths["blocks"].write_text("".join(lists.hexadecimal(case.a) + "\n" for case in cases))
-        paths["schedule"].write_text("\n".join([HEADER, *(",".join(map(str, line)) for line in lines), ""]))
-        files = [word for it, path in paths.items() for word in (f"--{it}", str(path))]
-        words = ["send", "--table", str(table), *files]
-        answers = output_of(program, words).splitlines()
+    blocks = (lists.hexadecimal(case.a) for case in cases)
+    schedule = ["block,rv,g,qm,nl,erase,flip,mask", *(",".join(map(str, line)) for line in lines)]
+    answers = answers_of(program, "send", table, settings_text(*settings), blocks, schedule)
     for answer, line in zip(answers, lines):
         kind, _, _, digits = answer.split()
         if kind != "sent":
-            raise Failed(f"case {cases[int(line[0]) - 1].id}: the program refuses its transmission: {digits}")
+            case = cases[int(line[0]) - 1].id
+            raise Failed(f"case {case}: the program refuses its transmission: {digits} (docs/formats.md, What send writes)")
         yield lists.of_digits(digits, int(line[2]))
 
 
@@ -105,10 +97,9 @@ class Made:
 
     def __init__(self, case: Case, plan: Plan, attached: str, blocks: list[str]) -> None:
         self.case, self.plan, self.attached, self.blocks = case, plan, attached, blocks
-        named, numbers = scheduled(case.mask, plan.c), dataclasses.asdict(plan)
-        self.shares = rate_matching.lengths(case.g, case.qm, case.nl, named)
-        self.length = rate_matching.buffer_length(numbers, case.lbrm)
-        self.start = rate_matching.start(numbers, self.length, case.rv)
+        named = scheduled(case.mask, plan.c)
+        # A transmission of no code block, or of no bit a symbol, the program refuses.
+        self.shares = rate_matching.lengths(case.g, case.qm, case.nl, named) if named and case.qm * case.nl else {}
 
     def take(self, words: typing.Iterator[str], bits: typing.Iterator[str]) -> None:
         """Takes d of each code block and the bits of the transmission's lines, in their order."""
@@ -122,10 +113,10 @@ class Made:
 
     def values(self) -> Values:
         """What the model is held to."""
-        lengths = [self.shares.get(r, 0) for r in range(self.plan.c)]
-        return Values(
-            self.attached, self.plan, self.blocks, self.d, self.length, self.start, lengths, self.e, self.f, self.sent
-        )
+        numbers, lengths = dataclasses.asdict(self.plan), [self.shares.get(r, 0) for r in range(self.plan.c)]
+        length = rate_matching.buffer_length(numbers, self.case.lbrm)
+        start = rate_matching.start(numbers, length, self.case.rv)
+        return Values(self.attached, self.plan, self.blocks, self.d, length, start, lengths, self.e, self.f, self.sent)
 
 
 def made(program: pathlib.Path, table: str | pathlib.Path, cases: list[Case]) -> typing.Iterator[Made]:

@@ -33,20 +33,12 @@ class First(shared.First):
 
 @dataclasses.dataclass
 class Report(shared.Report):
-    """A report on an encoder: `twice` has lines about cases that were asked again."""
+    """A report on an encoder: `twice` has lines about cases that were asked again, and `lacking` about names that are required."""
 
     firsts: list[First] = dataclasses.field(default_factory=list)
     diagnosis: list[Found] = dataclasses.field(default_factory=list)
     twice: list[str] = dataclasses.field(default_factory=list)
-    required: tuple[str, ...] = ()
-
-    @property
-    def lacking(self) -> list[str]:
-        """The required steps that some case lacks, in words."""
-        return [
-            f"{self.steps[step].name} is required, and {count} of {len(self.suite.cases)} cases lack it"
-            for step in self.required if (count := self.steps[step].not_answered)
-        ]
+    lacking: list[str] = dataclasses.field(default_factory=list)
 
     def status(self) -> int:
         return 1 if self.lacking else super().status()
@@ -98,6 +90,14 @@ def steps_of(suite: Suite, states: dict[str, dict[str, str]]) -> dict[str, share
         numbers = (counted.count("pass"), failing, counted.count("none"), counted.count("unjudged"))
         found[step] = shared.Step(STEPS[step][0], *numbers)
     return found
+
+
+def required(suite: Suite, answers: dict[str, Answer], names: typing.Iterable[str]) -> typing.Iterator[str]:
+    """Those of these names that some case lacks, in words."""
+    for name in names:
+        count = sum(getattr(answers.get(it), name, None) is None for it in suite.cases)
+        if count:
+            yield f"{name} is required, and {count} of {counted(len(suite.cases), 'case')} lack it"
 
 
 def lacking_of(trials: Trials, answers: dict[str, Answer]) -> list[str]:
@@ -185,8 +185,6 @@ def first_lines(made: Report, first: First) -> typing.Iterator[str]:
 def text(made: Report) -> typing.Iterator[str]:
     """The lines of the report for a terminal."""
     yield from made.head_lines()
-    yield from made.troubles
-    yield from made.notes
     yield from made.lacking
     for first in made.firsts:
         yield from first_lines(made, first)

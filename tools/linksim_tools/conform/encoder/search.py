@@ -8,8 +8,9 @@ import itertools
 import typing
 
 from linksim_tools.conform.clauses import Impossible
-from linksim_tools.conform.encoder import entries, families, places, polynomials, starts
+from linksim_tools.conform.encoder import entries, places, polynomials, starts
 from linksim_tools.conform.encoder.conditions import Common
+from linksim_tools.conform.encoder.families import every
 from linksim_tools.conform.encoder.found import Fitting, Found
 from linksim_tools.conform.encoder.told import lines as telling_lines
 from linksim_tools.conform.encoder.judging import NOTHING, Mistakes, Trial, Trials, length_of
@@ -162,7 +163,7 @@ class Search:
     def of_families(self, base: Mistakes, failing: list[str], fields: tuple[str, ...]) -> list[Mistakes]:
         """Mistakes that no list has, by their kind, that change something in the first failing case."""
         spans = self.spans(failing, fields)
-        named = families.mistakes(self.suite, list(self.by_name.values()))
+        named = every.mistakes(self.suite, list(self.by_name.values()))
         trial = self.by_name[failing[0]]
         return [base | {it} for it in named if not spans.isdisjoint(it.steps) and self.moves(trial, it, base)]
 

@@ -3,12 +3,13 @@
 from __future__ import annotations
 
 import dataclasses
+import typing
 
 # How many bits must agree for a place to be found by them, and how far bits are looked for.
 WINDOW, FAR = 48, 1 << 16
 
 
-def first_place(found: str, right: str) -> int:
+def first_place(found: typing.Sequence[object], right: typing.Sequence[object]) -> int:
     """The first index at which two lists differ."""
     most = min(len(found), len(right))
     if found[:most] == right[:most]:
@@ -28,11 +29,6 @@ def tells(window: str) -> bool:
 def count(bits: int) -> str:
     """A number of bits in words."""
     return "1 bit is" if bits == 1 else f"{bits} bits are"
-
-
-def agreeing(found: str, right: str) -> int:
-    """How many bits agree from the beginning."""
-    return first_place(found, right)
 
 
 @dataclasses.dataclass(frozen=True)

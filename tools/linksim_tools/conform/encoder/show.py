@@ -6,12 +6,14 @@ import json
 import typing
 
 from linksim_tools.common.program import Failed
-from linksim_tools.conform.files import Object, json_line, numbered_lines
+from linksim_tools.conform.files import Object, head_of, json_line, numbered_lines, vector_lines
 
 
 def found(path: str, wanted: str) -> Object:
     """The object of a case in a suite file."""
-    for number, line in numbered_lines(path):
+    lines = numbered_lines(path)
+    head_of(path, next(lines, (1, "")), "conform", set())
+    for number, line in lines:
         value = json_line(path, number, line)
         if value.get("id") == wanted:
             return value
@@ -21,13 +23,5 @@ def found(path: str, wanted: str) -> Object:
 def lines(path: str, wanted: str) -> typing.Iterator[str]:
     """The lines of the case."""
     value = found(path, wanted)
-    yield "{"
-    for name in (it for it in value if it not in ("codeblocks", "sent")):
-        yield f"{json.dumps(name)}: {json.dumps(value[name])},"
-    yield '"codeblocks": ['
-    texts = [json.dumps(part) for part in value["codeblocks"]]
-    yield from (text + "," for text in texts[:-1])
-    yield texts[-1]
-    yield "],"
-    yield f'"sent": {json.dumps(value["sent"])}'
-    yield "}"
+    parts, sent = value.pop("codeblocks"), value.pop("sent")
+    return vector_lines(value, list(map(json.dumps, parts)), sent)

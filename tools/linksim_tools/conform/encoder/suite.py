@@ -9,7 +9,7 @@ import pathlib
 import sys
 import typing
 
-from linksim_tools.common.program import Failed, Wrong
+from linksim_tools.common.program import Failed, Wrong, name_of
 from linksim_tools.conform import bits as lists
 from linksim_tools.conform import code
 from linksim_tools.conform.case import PLAN, Case, Plan, Tables, Values
@@ -29,19 +29,24 @@ def given(case: Case, form: str = "hex") -> Object:
     return {**head, "a": packed(form, case.a)}
 
 
-def line_of(case: Case, values: Values, covers: list[str], form: str) -> str:
-    """The line of a case."""
+def parts_of(values: Values, form: str) -> list[str]:
+    """The JSON text of each code block."""
     parts = []
     for r, d in enumerate(values.d):
         part: Object = {"r": r, "bits": packed(form, values.bits[r])}
         part.update({"k0": values.k0, "Ncb": values.Ncb, "E": values.E[r]})
         part.update({"e": packed(form, values.e[r]), "f": packed(form, values.f[r])})
         parts.append(json.dumps(part)[:-1] + f', "d": {listed(d)}}}')
+    return parts
+
+
+def line_of(case: Case, values: Values, covers: list[str], form: str) -> str:
+    """The line of a case."""
     head = given(case, form)
     head = {"id": head.pop("id"), "covers": covers, **head}
     head.update({"attached": packed(form, values.attached), "plan": dataclasses.asdict(values.plan)})
     tail = json.dumps(packed(form, values.sent))
-    return f'{json.dumps(head)[:-1]}, "codeblocks": [{", ".join(parts)}], "sent": {tail}}}'
+    return f'{json.dumps(head)[:-1]}, "codeblocks": [{", ".join(parts_of(values, form))}], "sent": {tail}}}'
 
 
 def cases_of(tables: Tables, profile: str, seed: int) -> list[Case]:
@@ -64,8 +69,11 @@ def own_cases(path: str | pathlib.Path, tables: Tables) -> list[Case]:
             case = plain.case_of(line.split())
             if case.id in found:
                 raise ValueError(f"a case before it is {case.id} too")
-            if points.Facts(case).graph not in tables:
-                raise ValueError(f"the table lacks base graph {points.Facts(case).graph}")
+            facts = points.Facts(case)
+            if facts.graph not in tables:
+                raise ValueError(f"the table lacks base graph {facts.graph}")
+            if facts.b % facts.c:
+                raise ValueError(f"a block of {facts.a} bits cannot be cut; {name_of('vectors')} --near names sizes that can")
         except (ValueError, Impossible) as error:
             raise Wrong(f"{path} line {number}: {error}") from None
         found[case.id] = case
@@ -145,10 +153,10 @@ def read(path: str | pathlib.Path) -> Suite:
         value = json_line(path, number, line)
         try:
             case, right = case_of(value)
-        except (KeyError, TypeError, ValueError, IndexError, lists.Unreadable) as error:
+        except (LookupError, TypeError, ValueError, ArithmeticError, lists.Unreadable) as error:
             raise Failed(f"{path} line {number}: no case of a suite: {error}") from None
         cases[case.id], values[case.id] = case, right
     if len(cases) != head["cases"]:
         raise Failed(f"{path} is no whole suite: it has {len(cases)} cases of {head['cases']}")
-    made = {str(name): str(it) for name, it in dict(head.get("made") or {}).items()}
+    made = {str(name): str(it) for name, it in head.get("made", {}).items()}
     return Suite(str(path), head["profile"], head.get("seed"), made, TablesKey(tables), cases, values)

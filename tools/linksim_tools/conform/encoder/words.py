@@ -99,11 +99,14 @@ def next_lines(made: Report) -> typing.Iterator[str]:
             break
     if all(it.fitting for it in made.diagnosis):
         return
+    most = {it.step for it in made.diagnosis if not it.fitting and 2 * len(it.failing) > made.answered}
+    is_coding = "ldpc" in most or "concatenation" in most and made.steps["ldpc"].kind == "none"
+    table = ["compare the fingerprint of your table with the suite's"] if is_coding else []
     lacking = [STEPS[name][1][-1] for name, step in made.steps.items() if step.kind == "none" and name != "graph"]
     answer = [f"answer {', '.join(lacking)} too"] if lacking else []
     full = ["take a suite of --profile full"] if made.suite.profile == "quick" else []
     twice = [] if made.twice else ["run --twice shows whether the state of an earlier case is left"]
-    yield "next: " + "; ".join([*answer, *twice, *full, "ask the smallest case alone, by a suite of --cases"])
+    yield "next: " + "; ".join([*table, *answer, *twice, *full, "ask the smallest case alone, by a suite of --cases"])
 
 
 def more(found: Found) -> list[str]:

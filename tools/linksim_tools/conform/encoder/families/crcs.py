@@ -47,12 +47,14 @@ def over(names: tuple[str, ...], taken: Bits) -> dict[str, Method]:
     return {"crc": crc}
 
 
-def of_some(which: typing.Callable[[int, int], bool], parity: Bits, other: str = "CRC24B") -> dict[str, Method]:
-    """Other parity bits for some code blocks."""
+def of_some(
+    which: typing.Callable[[int, int], bool], parity: Bits = str, other: str = "CRC24B", taken: Bits = str
+) -> dict[str, Method]:
+    """Other parity bits for some code blocks, or those of other bits."""
     def code_block(self: Clauses, before: list[str], part: str, plan: Plan, last: bool) -> str:
         if not plan.l or not which(len(before), plan.c):
             return Clauses.code_block(self, before, part, plan, last)
-        return part + parity(self.crc(other, part))
+        return part + parity(self.crc(other, taken(part)))
 
     return {"code_block": code_block}
 
@@ -91,20 +93,9 @@ def mistakes() -> typing.Iterator[Mistake]:
             yield mistake("code-crc", "codecrc", f"the parity bits of {which} are {words}", "each code block has its CRC24B",
                           of_some(test, parity, other))
         for said, taken in RANGES:
-            yield mistake("code-crc", "codecrc", f"the CRC of {which} {said}", right,
-                          of_some_over(test, taken))
+            yield mistake("code-crc", "codecrc", f"the CRC of {which} {said}", right, of_some(test, taken=taken))
     zeros = "the register begins with zeros for each code block"
     yield mistake("code-crc", "codecrc", "the register begins with the parity bits of the code block before", zeros,
                   from_before("before"))
     yield mistake("code-crc", "codecrc", "the register begins with the parity bits of r = 0", zeros, from_before("first"))
     yield mistake("code-crc", "codecrc", "the CRC goes over the bits of all code blocks before it too", zeros, all_before())
-
-
-def of_some_over(which: typing.Callable[[int, int], bool], taken: Bits) -> dict[str, Method]:
-    """The CRC of some code blocks over other bits."""
-    def code_block(self: Clauses, before: list[str], part: str, plan: Plan, last: bool) -> str:
-        if not plan.l or not which(len(before), plan.c):
-            return Clauses.code_block(self, before, part, plan, last)
-        return part + self.crc("CRC24B", taken(part))
-
-    return {"code_block": code_block}

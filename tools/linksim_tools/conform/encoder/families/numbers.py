@@ -26,19 +26,6 @@ def cut(bits: int) -> typing.Callable[..., typing.Any]:
     return lambda value, *_: value if value is None else value % (1 << bits)
 
 
-def cut_setting(bits: int) -> typing.Callable[[typing.Any], typing.Any]:
-    return lambda value: value if value is None else value % (1 << bits)
-
-
-def product(bits: int) -> dict[str, Method]:
-    """k0 whose product keeps so many bits."""
-    def start(self: Clauses, plan: typing.Any, length: int, version: int) -> int:
-        numerators, columns = self.starts(plan.graph)
-        return int(numerators[version] * length % (1 << bits) // (columns * plan.z) * plan.z)
-
-    return {"start": start}
-
-
 def turned(bits: int) -> dict[str, Method]:
     """A counter of places that begins again after so many bits."""
     def ring(_self: Clauses, d: str, length: int) -> str:
@@ -49,17 +36,20 @@ def turned(bits: int) -> dict[str, Method]:
 
 def widths() -> typing.Iterator[Mistake]:
     """Each number of the chain in each number of bits."""
+    yield mistake("too-few-bits", "buffer", "rv keeps 1 bit", WIDE,
+                  {"start": lambda self, plan, length, version: Clauses.start(self, plan, length, version % 2)})
     for bits in range(6, 32):
         for hook, (name, step) in HOOKS.items():
             if bits < 9 or hook not in ("shift", "value"):
                 yield mistake("too-few-bits", step, f"{name} keeps {bits} bits", WIDE, after(hook, cut(bits)))
         for field, (name, steps) in SETTINGS.items():
-            yield mistake("too-few-bits", steps, f"{name} keeps {bits} bits", WIDE, told(**{field: cut_setting(bits)}))
+            yield mistake("too-few-bits", steps, f"{name} keeps {bits} bits", WIDE, told(**{field: cut(bits)}))
         yield mistake("too-few-bits", "lengths", f"E_r keeps {bits} bits", WIDE,
                       after("lengths", lambda found, *_, b=bits: [it % (1 << b) for it in found]))
         yield mistake("too-few-bits", "buffer", f"3 TBS_LBRM keeps {bits} bits", WIDE,
                       {"reference": lambda _self, lbrm, c, _count, b=bits: 3 * lbrm % (1 << b) // (2 * c)})
-        yield mistake("too-few-bits", "buffer", f"the product of k0 with Ncb keeps {bits} bits", WIDE, product(bits))
+        yield mistake("too-few-bits", "buffer", f"the product of k0 with Ncb keeps {bits} bits", WIDE,
+                      begun(lambda n, columns, ncb, z, _, b=bits: int(n * ncb % (1 << b) // (columns * z) * z)))
         if bits < 22:
             yield mistake("too-few-bits", "selection", f"the counter of places keeps {bits} bits", WIDE, turned(bits))
 

@@ -4,68 +4,39 @@ from __future__ import annotations
 
 import typing
 
-from linksim_tools.conform import bits as lists
+from linksim_tools.conform.bits import Order, backwards, each_octet_reversed, in_words, inverted, octets_backwards, words_of
 from linksim_tools.conform.clauses import Clauses
 from linksim_tools.conform.encoder.families.made import Method, mistake
 from linksim_tools.conform.listed import Mistake
 
-Order = typing.Callable[[str], str]
-
-
-def words_of(bits: str, width: int) -> list[str]:
-    return [bits[at : at + width] for at in range(0, len(bits), width)]
-
-
-def octets_turned(width: int, whole: bool = False) -> Order:
-    """The octets of each word in reverse; of a last word that is not whole too, or not, or as if it were filled up."""
-    def turned(bits: str) -> str:
-        found = []
-        for word in words_of(bits, width):
-            if len(word) < width and whole:
-                found.append(word)
-            else:
-                found.append("".join(words_of(word, 8)[::-1]))
-        return "".join(found)
-
-    return turned
-
 
 def filled_turned(width: int) -> Order:
     """The octets of each word in reverse, the last word filled up with zeros, and as many bits taken as there are."""
-    def turned(bits: str) -> str:
-        filled = bits + "0" * (-len(bits) % width)
-        return "".join("".join(words_of(word, 8)[::-1]) for word in words_of(filled, width))[: len(bits)]
-
-    return turned
-
-
-def bits_turned(width: int, whole: bool = False) -> Order:
-    """The bits of each word in reverse; of a last word that is not whole too, or not."""
-    return lambda bits: "".join(word if whole and len(word) < width else word[::-1] for word in words_of(bits, width))
+    turned = in_words(width, octets_backwards)
+    return lambda bits: turned(bits + "0" * (-len(bits) % width))[: len(bits)]
 
 
 def halves(width: int) -> Order:
     """The words of each pair exchanged."""
-    return lambda bits: "".join(
-        "".join(words_of(pair, width)[::-1]) if len(pair) == 2 * width else pair for pair in words_of(bits, 2 * width))
+    return in_words(2 * width, lambda pair: pair[width:] + pair[:width], True)
 
 
 def orders() -> typing.Iterator[tuple[str, Order]]:
     """Orders of bits, each with words."""
     for width in (16, 32, 64, 128):
         said = f"the octets of each word of {width} bits are in reverse"
-        yield said, octets_turned(width)
-        yield f"{said}, but those of a last word that is not whole", octets_turned(width, True)
+        yield said, in_words(width, octets_backwards)
+        yield f"{said}, but those of a last word that is not whole", in_words(width, octets_backwards, True)
         yield f"{said}, the last word filled up", filled_turned(width)
         said = f"the bits of each word of {width} bits are in reverse"
-        yield said, bits_turned(width)
-        yield f"{said}, but those of a last word that is not whole", bits_turned(width, True)
+        yield said, in_words(width, backwards)
+        yield f"{said}, but those of a last word that is not whole", in_words(width, backwards, True)
         yield f"the words of {width // 2} bits of each pair are exchanged", halves(width // 2)
-    yield "the bits of each octet are in reverse", lists.each_octet_reversed
+    yield "the bits of each octet are in reverse", each_octet_reversed
     yield "the halves of each octet are exchanged", halves(4)
     yield "the bits of each pair are exchanged", halves(1)
-    yield "all bits are in reverse", lambda bits: bits[::-1]
-    yield "all bits are inverted", lists.inverted
+    yield "all bits are in reverse", backwards
+    yield "all bits are inverted", inverted
 
 
 # Orders of code blocks, of their numbers.

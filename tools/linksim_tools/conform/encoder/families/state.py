@@ -61,33 +61,25 @@ def number(
     return {"told": told, hook: made}
 
 
-class Left:
-    """The parity bits of all transport blocks of a suite in turn, if the register is never cleared; made if it is wanted."""
-
-    def __init__(self, suite: Suite) -> None:
-        self.suite = suite
-
-    @functools.cached_property
-    def parity(self) -> dict[str, str]:
-        """The parity bits by the id of a case."""
-        rest, found = 0, {}
-        for name, case in self.suite.cases.items():
-            degree, terms = lists.POLYNOMIALS[Clauses().crc_of_block(len(case.a))]
-            rest = lists.remainder((degree, terms), case.a, rest & (1 << degree) - 1)
-            found[name] = f"{rest:0{degree}b}"
-        return found
+@functools.lru_cache(maxsize=4)
+def uncleared(suite: Suite) -> dict[str, str]:
+    """The parity bits of all transport blocks of a suite in turn, by the id of a case, if the register is never cleared."""
+    rest, found = 0, {}
+    for name, case in suite.cases.items():
+        degree, terms = lists.POLYNOMIALS[Clauses().crc_of_block(len(case.a))]
+        rest = lists.remainder((degree, terms), case.a, rest & (1 << degree) - 1)
+        found[name] = f"{rest:0{degree}b}"
+    return found
 
 
 def register(suite: Suite) -> dict[str, Method]:
     """The register of the transport block's CRC begins with what the case before left there."""
-    left = Left(suite)
-
     def told(self: typing.Any, case: Case, _before: Case | None) -> Case:
         self.id = case.id
         return case
 
     def attached(self: typing.Any, a: str) -> str:
-        return a + left.parity[self.id]
+        return a + uncleared(suite)[self.id]
 
     return {"told": told, "attached": attached}
 
