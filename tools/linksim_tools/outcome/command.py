@@ -7,7 +7,7 @@ import pathlib
 from linksim_tools.common import explaining, files
 from linksim_tools.common.explained_files import File, rate_of
 from linksim_tools.common.program import Failed, Wrong, name_of, named_in_faults
-from linksim_tools.common.vector import settings_of
+from linksim_tools.common.toml_file import settings_of
 from linksim_tools.conform.files import table_of
 from linksim_tools.outcome import page
 from linksim_tools.outcome.ended import Outcome, outcome_of

@@ -9,8 +9,7 @@ import re
 import typing
 
 from linksim_tools.common import explaining
-from linksim_tools.common.program import Failed
-from linksim_tools.common.vector import plan_of
+from linksim_tools.common.program import Failed, plan_of
 
 # A block's digits are shown up to so many.
 MOST_DIGITS = 64

@@ -7,7 +7,7 @@ import typing
 
 from linksim_tools.common import rate_matching
 from linksim_tools.common.program import Failed
-from linksim_tools.common.vector import scheduled
+from linksim_tools.conform.case import scheduled
 from linksim_tools.conform.receiver.peeling import Peeler, Rows
 from linksim_tools.curve.draws import drawn_places
 

@@ -5,7 +5,7 @@ from __future__ import annotations
 import json
 import typing
 
-from linksim_tools.common.packing import little_endian_words
+from linksim_tools.conform.packing import little_endian_words
 from linksim_tools.rtl.folder import Folder
 
 if typing.TYPE_CHECKING:
@@ -17,7 +17,7 @@ IN_LINE = 8
 
 def words(bits: str) -> str:
     """Bits in words, as these files have them."""
-    found = little_endian_words(list(map(int, bits)))
+    found = little_endian_words(bits)
     return ",\n".join(", ".join(found[start : start + IN_LINE]) for start in range(0, len(found), IN_LINE))
 
 

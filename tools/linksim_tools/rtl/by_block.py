@@ -6,6 +6,7 @@ import dataclasses
 import json
 import typing
 
+from linksim_tools.common.graphs import FACTORS
 from linksim_tools.conform.bits import FILLER
 from linksim_tools.rtl import bbdev
 from linksim_tools.rtl.beats import Bus, memory
@@ -13,9 +14,6 @@ from linksim_tools.rtl.folder import Folder
 
 if typing.TYPE_CHECKING:
     from linksim_tools.conform.case import Case, Plan, Values
-
-# The odd factor of the lifting sizes of each set index (Table 5.3.2-1): Zc is it times a power of two.
-FACTORS = (2, 3, 5, 7, 9, 11, 13, 15)
 
 # The words of a record of control.mem, 32 bits each, the first one highest.
 CONTROL = (

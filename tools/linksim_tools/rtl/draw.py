@@ -8,7 +8,7 @@ import typing
 
 from linksim_tools.common import rate_matching
 from linksim_tools.conform.case import Case, Plan
-from linksim_tools.conform.clauses import Impossible, plan_of
+from linksim_tools.conform.clauses import Impossible, right
 
 # Sizes and code rates at both sides of the limits of 6.2.1, 6.2.2 and 5.2.2.
 SIZES = (8, 176, 184, 288, 296, 544, 552, 624, 632, 3816, 3824, 3832, 8424, 8432)
@@ -71,7 +71,7 @@ def tried(draw: random.Random, name: str, graphs: typing.Container[int]) -> Case
     a, rate = near(draw, SIZES, MOST_A, 8), near(draw, RATES, 2048, 1)
     version, symbol, layers = draw.randrange(4), draw.choice(SYMBOLS), draw.randint(1, 4)
     try:
-        plan = plan_of(a, a + (24 if a > 3824 else 16), rate)
+        plan = right().plan_of(a, rate)
     except Impossible:
         return None
     limit = limit_of(draw, plan)

@@ -7,7 +7,7 @@ import os
 import pathlib
 import typing
 
-from linksim_tools.common.program import Failed, name_of
+from linksim_tools.common.program import Failed
 from linksim_tools.conform.encoder import points
 from linksim_tools.conform.encoder import program as making
 from linksim_tools.rtl.by_block import Transmission
@@ -22,8 +22,7 @@ def made_of_group(program: pathlib.Path, table: str | pathlib.Path, cases: list[
         return {one.case.id: one.values() for one in making.made(program, table, cases)}
     except Failed as failed:
         if len(cases) == 1:
-            hint = f"; {name_of('vectors')} --near names sizes that can be cut" if str(failed).endswith(" Uneven") else ""
-            raise Failed(f"{cases[0].id}: {failed}{hint}") from None
+            raise Failed(f"{cases[0].id}: {failed}") from None
     found: dict[str, Values] = {}
     for case in cases:
         found.update(made_of_group(program, table, [case]))

@@ -1,4 +1,4 @@
-"""What tools/vectors writes into a folder: vectors of one transmission or of many, as JSON or as memory files."""
+"""What tools/vectors writes: the vector of one transmission, or those of many in a folder, as JSON or as memory files."""
 
 from __future__ import annotations
 
@@ -6,37 +6,32 @@ import argparse
 import dataclasses
 import json
 import pathlib
+import re
 import sys
 import typing
 
-from linksim_tools.common import vector
-from linksim_tools.common.program import Wrong
-from linksim_tools.conform.case import Case
+from linksim_tools.common import files, toml_file
+from linksim_tools.common.program import Failed, Wrong, output_of
+from linksim_tools.conform.bits import from_hex
+from linksim_tools.conform.case import Case, Values
 from linksim_tools.conform.encoder.suite import given as given_of
-from linksim_tools.conform.encoder.suite import own_cases
-from linksim_tools.conform.files import listed, packed, table_of
+from linksim_tools.conform.encoder.suite import judged, own_cases, parts_of
+from linksim_tools.conform.files import Object, packed, table_of, vector_lines
 from linksim_tools.rtl import draw, many
 from linksim_tools.rtl.beats import Bus
-from linksim_tools.rtl.by_block import Transmission, export
+from linksim_tools.rtl.by_block import export
 from linksim_tools.rtl.folder import folder_at
 from linksim_tools.rtl.made import made_by
 
-def json_of(made: dict[str, typing.Any], one: Transmission, packing: str) -> typing.Iterator[str]:
-    """The lines of a vector's JSON, as tools/vectors writes one: a code block a line."""
-    case, values = one.case, one.values
-    yield "{"
-    head = {"made": made, "covers": one.covers, **given_of(case, packing)}
-    head.update({"attached": packed(packing, values.attached), "plan": dataclasses.asdict(values.plan)})
-    for name, value in head.items():
-        yield f"{json.dumps(name)}: {json.dumps(value)},"
-    yield '"codeblocks": ['
-    for r, length in enumerate(values.E):
-        part = {"r": r, "bits": packed(packing, values.bits[r]), "k0": values.k0, "Ncb": values.Ncb, "E": length}
-        part.update({"e": packed(packing, values.e[r]), "f": packed(packing, values.f[r])})
-        yield f'{json.dumps(part)[:-1]}, "d": {listed(values.d[r])}}}' + ("," if r + 1 < values.plan.c else "")
-    yield "],"
-    yield f'"sent": {json.dumps(packed(packing, values.sent))}'
-    yield "}"
+# Code blocks as a schedule names them.
+MASK = r"all|[0-9]+(-[0-9]+)?( [0-9]+(-[0-9]+)?)*"
+
+
+def json_of(head: Object, case: Case, values: Values, packing: str) -> typing.Iterator[str]:
+    """The lines of a vector's JSON, which begins with this: a code block a line."""
+    told = {name: it for name, it in given_of(case, packing).items() if name != "id"}
+    whole = {**head, **told, "attached": packed(packing, values.attached), "plan": dataclasses.asdict(values.plan)}
+    return vector_lines(whole, parts_of(values, packing), packed(packing, values.sent))
 
 
 def cases_of(given: argparse.Namespace, program: pathlib.Path) -> list[Case]:
@@ -46,10 +41,26 @@ def cases_of(given: argparse.Namespace, program: pathlib.Path) -> list[Case]:
     if given.count is not None:
         graphs = table_of(program, given.table)
         return [draw.drawn(given.seed, number, graphs) for number in range(given.count)]
-    digits = vector.block_line(given.blocks, given.block)
-    rate, limit = vector.settings_of(given.settings)
-    a = "".join(map(str, vector.Vector(program, given.table, given.settings, digits).attached[: 4 * len(digits)]))
-    return [Case(f"block-{given.block}", a, rate, limit, given.rv, given.g, given.qm, given.nl, given.mask)]
+    return [case_of(given, program)]
+
+
+def case_of(given: argparse.Namespace, program: pathlib.Path) -> Case:
+    """The one transmission of the files."""
+    digits, (rate, limit) = files.block_line(given.blocks, given.block), toml_file.settings_of(given.settings)
+    if not re.fullmatch(MASK, given.mask):
+        raise Failed(f"--mask is all, or numbers and ranges of code blocks, as in '0 2-3': {given.mask}")
+    # The program says what is wrong with the digits.
+    words, of = ["cut", "--rate", str(rate), "--blocks", "-"], f"{files.shown(given.blocks)} block {given.block}"
+    output_of(program, words, digits.encode() + b"\n", of)
+    return Case(f"block-{given.block}", from_hex(digits), rate, limit, given.rv, given.g, given.qm, given.nl, given.mask)
+
+
+def lines(given: argparse.Namespace, program: pathlib.Path) -> typing.Iterator[str]:
+    """The lines of the vector of the one transmission of the files. Its numbers, which the program does not print, agree with the
+    bits."""
+    cases = [case_of(given, program)]
+    (case, values), = judged(program, given.table, table_of(program, given.table), cases)
+    return json_of({"made": made_by(program, given.table)}, case, values, given.pack)
 
 
 def write(given: argparse.Namespace, program: pathlib.Path) -> None:
@@ -63,7 +74,8 @@ def write(given: argparse.Namespace, program: pathlib.Path) -> None:
         found = many.transmissions(program, given.table, cases)
         if given.form == "json":
             for one in found:
-                folder.write(f"{folder.named(one.case.id)}.json", json_of(made, one, given.pack))
+                head = {"made": made, "covers": one.covers, "id": one.case.id}
+                folder.write(f"{folder.named(one.case.id)}.json", json_of(head, one.case, one.values, given.pack))
             folder.write("manifest.json", [json.dumps({"made": made, "files": folder.digests})])
         else:
             export(folder, bus, given.form, made, found)

@@ -4,11 +4,10 @@ from __future__ import annotations
 
 import hashlib
 import pathlib
-import tempfile
 import typing
 
 from linksim_tools.common.graphs import GRAPHS, LARGEST, SETS
-from linksim_tools.common.program import output_of
+from linksim_tools.common.program import answers_of, output_of, settings_text
 
 # The code rates in 2048ths by which a block of the sizes below takes each base graph (TS 38.212, 6.2.2 and 7.2.2).
 RATES = {1: 2048, 2: 512}
@@ -35,16 +34,10 @@ def block(graph: int, index: int) -> bytes:
 
 def sent(program: pathlib.Path, table: str | pathlib.Path, graph: int) -> list[str]:
     """What the program sends of each of the eight blocks of a base graph, in hexadecimal, by set index."""
-    with tempfile.TemporaryDirectory() as name:
-        folder = pathlib.Path(name)
-        settings, blocks, schedule = folder / "settings.toml", folder / "blocks.txt", folder / "schedule.csv"
-        settings.write_text(f"rate2048 = {RATES[graph]}\n")
-        blocks.write_text("".join(block(graph, index).hex() + "\n" for index in SETS))
-        lines = [f"{index + 1},0,{GRAPHS[graph].sent * LARGEST[index]},1,1,-" for index in SETS]
-        schedule.write_text("\n".join(["block,rv,g,qm,nl,erase", *lines, ""]))
-        files = {"table": str(table), "settings": str(settings), "blocks": str(blocks), "schedule": str(schedule)}
-        words = [word for name, path in files.items() for word in (f"--{name}", path)]
-        return [line.split()[3] for line in output_of(program, ["send", *words]).splitlines()]
+    blocks = (block(graph, index).hex() for index in SETS)
+    lines = [f"{index + 1},0,{GRAPHS[graph].sent * LARGEST[index]},1,1,-" for index in SETS]
+    answers = answers_of(program, "send", table, settings_text(RATES[graph]), blocks, ["block,rv,g,qm,nl,erase", *lines])
+    return [line.split()[3] for line in answers]
 
 
 def digest(program: pathlib.Path, table: str | pathlib.Path, graph: int, index: int) -> str:
