@@ -79,14 +79,14 @@ enum NrStatus {
     NR_SHORT = 43,      /* there are too few bits */
     NR_LONG = 44,       /* there are too many bits */
     NR_UNEVEN = 45,     /* the code blocks of this transport block would not be equally long (5.2.2) */
-    NR_GRAPH = 46,      /* the table has no entries of this transport block's base graph */
+    NR_GRAPH = 46,      /* the table has no entries of the base graph, or there is none of this number */
     NR_NO_BUFFER = 47,  /* lbrm keeps no bit of a code block, or ncb is not 1 to N (5.4.2.1) */
     /* of a transmission */
     NR_RV = 50,             /* the redundancy version is above 3 */
     NR_ORDER = 51,          /* qm is none of 1, 2, 4, 6 and 8 */
     NR_LAYERS = 52,         /* nl is not 1 to 4 */
     NR_TOTAL = 53,          /* g is not 1 to 4,194,304 */
-    NR_RAGGED = 54,         /* g is no multiple of qm * nl */
+    NR_RAGGED = 54,         /* g is no multiple of qm * nl, or a code block's bits are none of qm */
     NR_NONE_SCHEDULED = 55, /* no code block of this transport block is scheduled */
     NR_LENGTH = 56          /* a list does not have the length that it should */
 };

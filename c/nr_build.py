@@ -28,12 +28,8 @@ FIRST = 315532800
 
 
 def version() -> str:
-    """The project's version: of the file VERSION, or if the folder stands alone, of nr.h."""
-    above = HERE.parent / "VERSION"
-    if above.exists():
-        return above.read_text().strip()
-    line = next(it for it in (HERE / "nr.h").read_text().splitlines() if it.startswith("#define NR_VERSION "))
-    return line.split('"')[1]
+    """The project's version."""
+    return (HERE.parent / "VERSION").read_text().strip()
 
 
 def sources() -> dict[str, bytes]:
@@ -75,11 +71,11 @@ def tags(octets: bytes) -> list[str]:
 
 
 def library() -> bytes:
-    """The octets of the shared library, built if it is missing."""
-    path = pathlib.Path(os.environ.get("NR_LIBRARY") or HERE / "out" / "libnr.so.2")
-    if not path.exists():
+    """The octets of the shared library that NR_LIBRARY names, else of this folder's, built if it is missing or old."""
+    named = os.environ.get("NR_LIBRARY")
+    if not named:
         subprocess.run(["make", "out/libnr.so.2"], cwd=HERE, check=True, stdout=subprocess.DEVNULL)
-    return path.read_bytes()
+    return pathlib.Path(named or HERE / "out" / "libnr.so.2").read_bytes()
 
 
 def about(octets: bytes) -> dict[str, bytes]:

@@ -12,9 +12,11 @@ enum { G = 400, MOST = 4 };
 static uint32_t read_table(const char *path, NrEntry **entries, size_t *count) {
     static uint8_t text[1 << 16];
     FILE *file = fopen(path, "rb");
-    size_t length = file ? fread(text, 1, sizeof text, file) : 0;
+    size_t length;
     uint32_t status;
-    if (file) fclose(file);
+    if (!file) return NR_READ;
+    length = fread(text, 1, sizeof text, file);
+    fclose(file);
     /* A room for none: how many are wanted. */
     status = nr_table_entries(text, length, NULL, 0, count);
     if (status != NR_ROOM) return status;

@@ -82,8 +82,7 @@ def cut(
     the block with its CRC, with the CRC24B of these if there are several code blocks, and without fillers. In place of the
     octets `bits` may have the block's bits."""
     octets, in2048ths = block_of(block, bits), rate_of(rate2048, rate1024, rate)
-    shared = bytearray(plan_struct(in2048ths, min(8 * len(octets), MOST_BITS + 8)).kdash)
-    first, room = room_of(shared)
+    shared, first, room = fresh_room(plan_struct(in2048ths, min(8 * len(octets), MOST_BITS + 8)).kdash)
     judge(library.nr_cut(in2048ths, octets, len(octets), number("r", r), byref(first), room))
     return shared
 
@@ -94,8 +93,7 @@ def encode(table: Table, bits: Octets, *, graph: Count, z: Count) -> bytearray:
     stays one in d."""
     entries, given, lifting = entries_of(table), octets_of(bits), number("z", z)
     columns, coded_columns = {1: (22, 66), 2: (10, 50)}.get(number("graph", graph), (0, 0))
-    coded = bytearray(coded_columns * min(lifting, 384))
-    first, room = room_of(coded)
+    coded, first, room = fresh_room(coded_columns * min(lifting, 384))
     status = library.nr_encode(*entries, number("graph", graph), lifting, given, len(given), byref(first), room)
     judge(status, ("bits", len(given), columns * lifting))
     return coded
@@ -108,8 +106,7 @@ def codeword(
     transport block of `a` bits. `bits` has its K' bits, its CRC with them, each an octet 0 or 1."""
     entries, given, in2048ths, a = entries_of(table), octets_of(bits), rate_of(rate2048, rate1024, rate), number("a", a)
     numbers = plan_struct(in2048ths, a)
-    coded = bytearray(numbers.n)
-    first, room = room_of(coded)
+    coded, first, room = fresh_room(numbers.n)
     status = library.nr_codeword(*entries, in2048ths, a, given, len(given), byref(first), room)
     judge(status, ("bits", len(given), numbers.kdash))
     return coded
@@ -176,10 +173,10 @@ def receive(
         if tx.g != len(places):
             raise length_fault(f"what was heard of transmission {turn}", len(places), tx.g)
     txs, heard = (TxStruct * len(pairs))(*(tx for tx, _ in pairs)), b"".join(places for _, places in pairs)
-    warn_of_soft(heard, 1)
-    link, block = settings(rate2048, rate1024, rate, lbrm), bytearray(min(a, MOST_BITS) // 8)
+    warn_of_soft(heard)
+    link, (block, first, room) = settings(rate2048, rate1024, rate, lbrm), fresh_room(min(a, MOST_BITS) // 8)
     outcomes, left = (ctypes.c_uint32 * len(pairs))(), (ctypes.c_uint32 * plan_struct(link.rate2048, a).c)()
-    given, (first, room) = (byref(link), a, txs, len(pairs), heard, len(heard)), room_of(block)
+    given = byref(link), a, txs, len(pairs), heard, len(heard)
     judge(library.nr_receive(*entries, *given, outcomes, len(outcomes), left, len(left), byref(first), room))
     found = [Outcome(it) for it in outcomes]
     return Received(found, list(left), block if found and found[-1] == Outcome.DELIVERED else None)

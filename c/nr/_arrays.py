@@ -42,11 +42,7 @@ class Plain:
     @property
     def shape(self) -> typing.Tuple[int, ...]:
         """How many items it has in each dimension."""
-        kind, found = type(self), []
-        while issubclass(kind, Plain):
-            found.append(kind._length_)
-            kind = kind._type_
-        return tuple(found)
+        return self._shape_and_item()[0]
 
     def tolist(self) -> typing.List[typing.Any]:
         """Its items as numbers, in lists of lists if it has several dimensions."""
@@ -61,14 +57,16 @@ class Plain:
         return f"<array of {' x '.join(map(str, self.shape))}>"
 
     def __reduce__(self) -> typing.Tuple[typing.Any, ...]:
-        is_octets = issubclass(self._item(), ctypes.c_ubyte)
-        return _copied, (self.shape, is_octets, self.tobytes())
+        shape, item = self._shape_and_item()
+        return _copied, (shape, issubclass(item, ctypes.c_ubyte), self.tobytes())
 
-    def _item(self) -> typing.Any:
+    def _shape_and_item(self) -> typing.Tuple[typing.Tuple[int, ...], typing.Any]:
         kind: typing.Any = type(self)
+        found = []
         while issubclass(kind, Plain):
+            found.append(kind._length_)
             kind = kind._type_
-        return kind
+        return tuple(found), kind
 
 
 @functools.lru_cache(maxsize=64)

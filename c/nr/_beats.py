@@ -46,9 +46,7 @@ def bits_of_beats(
     bits, lowest = _bus(width, first)
     found = bytearray()
     for it in given:
-        word = it.__index__()
-        if not 0 <= word < 1 << bits:
-            raise ValueError(f"{word} is no beat of {bits} bits")
+        word = number("a beat", it, (1 << bits) - 1)
         digits = f"{word:0{bits}b}".encode().translate(bytes.maketrans(b"01", b"\0\1"))
         found += digits[::-1] if lowest else digits
     if count is None:

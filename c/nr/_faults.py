@@ -38,15 +38,15 @@ SENTENCES = {
     43: "there are too few bits",
     44: "there are too many bits",
     45: "the code blocks of this transport block would not be equally long (5.2.2)",
-    46: "the table has no entries of this transport block's base graph",
+    46: "the table has no entries of the base graph, or there is none of this number",
     47: "lbrm keeps no bit of a code block, or ncb is not 1 to N (5.4.2.1)",
     50: "the redundancy version is above 3",
     51: "qm is none of 1, 2, 4, 6 and 8",
     52: "nl is not 1 to 4",
     53: "g is not 1 to 4,194,304",
-    54: "g is no multiple of qm * nl",
+    54: "g is no multiple of qm * nl, or a code block's bits are none of qm",
     55: "no code block of this transport block is scheduled",
-    56: "a list does not have the length that it should: K' bits of a code block, or G places of a transmission",
+    56: "a list does not have the length that it should: K' or N bits of a code block, or G places of a transmission",
 }
 
 

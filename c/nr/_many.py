@@ -8,11 +8,11 @@ import typing
 
 from ._arrays import fresh
 from ._faults import ROOM, Fault, length_fault
-from ._library import Entry, SettingsStruct, TxStruct, library
+from ._library import TxStruct, library
 from ._records import Outcome, ReceivedMany, Tx
 from ._table import Table, entries_of
-from ._values import (MOST_BITS, Count, OctetRows, Rate, Rate1024, Rate2048, Rows, number, packed, plan_struct, room_of, rows_of,
-                      settings, tx_struct, view_of, warn_of_bits, warn_of_soft)
+from ._values import (MOST_BITS, Count, OctetRows, Rate, Rate1024, Rate2048, Rows, items_of, number, packed, plan_struct, room_of,
+                      rows_of, settings, tx_struct, view_of, warn_of_bits, warn_of_soft)
 
 if typing.TYPE_CHECKING:
     from ._arrays import Places
@@ -46,12 +46,13 @@ def send_many(
     entries, rows, structs = entries_of(table), _blocks_of(blocks, bits), _structs_of(tx)
     # A larger G is refused before the room is judged.
     g = sum(it.g for it in structs if it.g <= 1 << 22)
-    sent, address = fresh((rows.rows, g), ctypes.c_ubyte) if out is None else (out, _address_of(out, rows, g))
+    made, address = fresh((rows.rows, g if out is None else 0), ctypes.c_ubyte)
+    sent, place = (made, _at(address)) if out is None else (out, _place_of(out, rows, g))
     link, count = settings(rate2048, rate1024, rate, lbrm), rows.rows
     if not count:
         return sent
-    status = library.nr_send_many(*_head(entries, link), 8 * rows.width, *_listed(structs), count, _at(rows.address),
-                                  count * rows.width, _at(address), count * g)
+    status = library.nr_send_many(*entries, ctypes.byref(link), 8 * rows.width, *_listed(structs), count, _at(rows.address),
+                                  count * rows.width, place, count * g)
     if status:
         raise Fault(status)
     return sent
@@ -70,14 +71,15 @@ def receive_many(
     entries, a = entries_of(table), number("a", a)
     rows = _heard_of(heard, [tx.g for tx in structs])
     if rows.count:
-        warn_of_soft(ctypes.string_at(rows.place, rows.width), 1)
+        # (more than an int of C can count is no length to string_at)
+        warn_of_soft(ctypes.string_at(rows.place, min(rows.width, 1 << 22)))
     link = settings(rate2048, rate1024, rate, lbrm)
     sent, c = len(structs), plan_struct(link.rate2048, a).c
     counts, kinds = (sent, c, min(a, MOST_BITS) // 8), (ctypes.c_uint32, ctypes.c_uint32, ctypes.c_ubyte)
     made = [fresh((rows.count, count), kind) for count, kind in zip(counts, kinds)]
     places = [_at(address) for _, address in made]
     rooms = [it for place, count in zip(places, counts) for it in (place, count * rows.count)]
-    status = library.nr_receive_many(*_head(entries, link), a, *_listed(structs), rows.count, rows.place,
+    status = library.nr_receive_many(*entries, ctypes.byref(link), a, *_listed(structs), rows.count, rows.place,
                                      rows.width * rows.count, *rooms)
     if status:
         raise Fault(status)
@@ -130,7 +132,7 @@ def _judge_widths(widths: typing.List[int], lengths: typing.List[int], rows: int
 def _has_rows(given: typing.Any) -> bool:
     """Whether this is an array of rows, or a list of them, and not a row."""
     if isinstance(given, (list, tuple)):
-        return bool(given) and not hasattr(given[0], "__index__")
+        return bool(given) and hasattr(given[0], "__len__")
     return not isinstance(given, (bytes, bytearray)) and memoryview(given).ndim == 2
 
 
@@ -150,11 +152,6 @@ def _at(address: int) -> typing.Any:
     return ctypes.c_void_p(address)
 
 
-def _head(entries: typing.Tuple[ctypes.Array[Entry], int], link: SettingsStruct) -> typing.Tuple[typing.Any, ...]:
-    """What both calls are given first."""
-    return entries[0], entries[1], ctypes.byref(link)
-
-
 def _blocks_of(blocks: typing.Any, bits: typing.Any) -> Rows:
     """The rows of octets of the one of both that is given."""
     if (blocks is None) == (bits is None):
@@ -164,22 +161,22 @@ def _blocks_of(blocks: typing.Any, bits: typing.Any) -> Rows:
     rows = rows_of(blocks)
     first = blocks[0] if isinstance(blocks, (list, tuple)) and blocks else blocks
     if not isinstance(first, (bytes, bytearray)):
-        warn_of_bits(ctypes.string_at(rows.address, rows.width if rows.rows else 0), 2)
+        warn_of_bits(ctypes.string_at(rows.address, min(rows.width, MOST_BITS) if rows.rows else 0), 2)
     return rows
 
 
-def _cut(bits: typing.Any) -> typing.List[typing.Any]:
+def _cut(bits: typing.Any) -> typing.List[bytes]:
     """The rows of an array of bits, whose items are of any whole type."""
     view = memoryview(bits)
     if view.ndim != 2:
         raise TypeError(f"an array of {view.ndim} dimensions: two are wanted, with a row for each block")
     count, width = view.shape or (0, 0)
-    octets, size = view.tobytes(), width * view.itemsize
-    return [memoryview(octets[size * row : size * row + size]).cast(view.format) for row in range(count)]
+    items = items_of(view)
+    return [items[width * row : width * row + width] for row in range(count)]
 
 
-def _address_of(out: typing.Any, rows: Rows, g: int) -> int:
-    """The address of a buffer that has a row of G octets for each block, apart from the blocks."""
+def _place_of(out: typing.Any, rows: Rows, g: int) -> typing.Any:
+    """Where a buffer stands that has a row of G octets for each block, apart from the blocks. While this is held its size stays."""
     first, room = room_of(out)
     view = view_of(out)
     if room != rows.rows * g or view.ndim == 2 and view.shape != (rows.rows, g):
@@ -187,4 +184,4 @@ def _address_of(out: typing.Any, rows: Rows, g: int) -> int:
     at = ctypes.addressof(first)
     if at < rows.end and rows.address < at + room:
         raise ValueError("out overlaps the blocks: give it memory of its own")
-    return at
+    return ctypes.byref(first)

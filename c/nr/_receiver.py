@@ -9,8 +9,8 @@ from ._faults import judge
 from ._library import library
 from ._records import Outcome, Short, Taken, Tx
 from ._table import Table, entries_of
-from ._values import (MOST_BITS, Count, Octets, Rate, Rate1024, Rate2048, number, octets_of, places_of, plan_struct, room_of,
-                      settings, tx_struct)
+from ._values import (MOST_BITS, Count, Octets, Rate, Rate1024, Rate2048, fresh_room, number, octets_of, plan_struct, room_of,
+                      settings, tx_struct, warn_of_soft)
 
 
 class Receiver(metaclass=Short):
@@ -48,12 +48,13 @@ class Receiver(metaclass=Short):
 
     def take(self, tx: Tx, heard: Octets) -> Taken:
         """Takes up a transmission, of which `heard` has what was received at its G places, as receive() has it. Returns what may be
-        handed up of all that was received so far, as a Taken. With a Fault it is as it was: State is that of a room that is no such
-        receiver's."""
-        entries, given, places = entries_of(self.table), tx_struct(tx), places_of(heard)
+        handed up of all that was received so far, as a Taken. With a Fault it is as it was: Room or State is that of a room that is
+        no such receiver's."""
+        entries, given, places = entries_of(self.table), tx_struct(tx), octets_of(heard)
+        warn_of_soft(places)
         link, outcome = settings(self.rate2048, None, None, self.lbrm), ctypes.c_uint32()
-        left, block = (ctypes.c_uint32 * plan_struct(self.rate2048, self.a).c)(), bytearray(min(self.a, MOST_BITS) // 8)
-        (kept, octets), (first, room) = room_of(self._room), room_of(block)
+        left, (kept, octets) = (ctypes.c_uint32 * plan_struct(self.rate2048, self.a).c)(), room_of(self._room)
+        block, first, room = fresh_room(min(self.a, MOST_BITS) // 8)
         status = library.nr_receiver_take(
             *entries, ctypes.byref(link), self.a, ctypes.byref(kept), octets, ctypes.byref(given), places, len(places),
             ctypes.byref(outcome), left, len(left), ctypes.byref(first), room,

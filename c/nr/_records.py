@@ -95,20 +95,16 @@ class Received(typing.NamedTuple):
         return self.outcomes[-1] if self.outcomes else Outcome.OPEN
 
 
-class _ManyFields(typing.NamedTuple):
-    outcomes: Numbers
-    left: Numbers
-    blocks: Places
-    after: Numbers
-
-
-class ReceivedMany(_ManyFields):
+class ReceivedMany(typing.NamedTuple):
     """What receive_many() returns, as arrays with a row for each block. `outcomes` has the Outcome after each transmission.
     `left` has how many of the K' bits of each code block are not fixed after the last one. `blocks` has the octets of the
     transport block, zeros if it is not delivered then. `after` has no rows: after how many transmissions each block was first
     delivered, 0 if after none. They are numpy's arrays if it can be imported, else plain ones."""
 
-    __slots__ = ()
+    outcomes: Numbers
+    left: Numbers
+    blocks: Places
+    after: Numbers
 
     @property
     def rates(self) -> typing.List[float]:
@@ -131,20 +127,16 @@ class Taken(typing.NamedTuple):
         return f"Taken(outcome={self.outcome.name}, left={self.left}, block={_short(self.block)})"
 
 
-class _SimulatedFields(typing.NamedTuple):
-    after: Numbers
-    left: Numbers
-    erased: Numbers
-
-
-class Simulated(_SimulatedFields):
+class Simulated(typing.NamedTuple):
     """What simulate() returns, as arrays. `after` says after how many transmissions each round was delivered, 0 if after none.
     `left` is how many of the K' bits of each code block were not fixed after each transmission. `erased` is how many places of
     each code block that transmission alone erased. The last two have three dimensions, rounds, transmissions and code blocks,
     with zeros after the delivery: numpy.cumsum(found.erased, axis=1) counts up to each transmission. They are numpy's arrays if
     it can be imported, else plain ones."""
 
-    __slots__ = ()
+    after: Numbers
+    left: Numbers
+    erased: Numbers
 
     @property
     def rates(self) -> typing.List[float]:

@@ -7,8 +7,8 @@ from ctypes import byref
 
 from ._faults import judge
 from ._library import MatchStruct, library
-from ._values import (Count, Octets, Rate, Rate1024, Rate2048, number, octets_of, plan_struct, room_of, settings, threshold_of,
-                      view_of)
+from ._values import (Count, Octets, Rate, Rate1024, Rate2048, fresh_room, number, octets_of, plan_struct, room_of, settings,
+                      threshold_of, view_of)
 
 ERASED = 2  # a place at which nothing was received; so is any number but 0 and 1
 
@@ -23,8 +23,7 @@ def select(
     transport block of `a` bits. `d` has N bits as codeword() and encode() give them; lengths() says how many a Tx sends of each
     code block."""
     given, link, a = octets_of(d), settings(rate2048, rate1024, rate, lbrm), number("a", a)
-    bits = bytearray(min(number("e", e), (1 << 22) + 1))
-    first, room = room_of(bits)
+    bits, first, room = fresh_room(min(number("e", e), (1 << 22) + 1))
     status = library.nr_select(byref(link), a, number("rv", rv), given, len(given), byref(first), room)
     judge(status, ("d", len(given), plan_struct(link.rate2048, a).n))
     return bits
@@ -33,8 +32,7 @@ def select(
 def interleave(bits: Octets, qm: Count) -> bytearray:
     """The selected bits of a code block in the order in which they are sent, `qm` to a symbol (5.4.2.2)."""
     given = octets_of(bits)
-    sent = bytearray(len(given))
-    first, room = room_of(sent)
+    sent, first, room = fresh_room(len(given))
     judge(library.nr_interleave(number("qm", qm), given, len(given), byref(first), room))
     return sent
 
@@ -47,8 +45,7 @@ def match(
     gives them. The last `fillers` of the K bits are FILLERs. The buffer keeps `ncb` bits, N if it is not limited."""
     given = octets_of(d)
     numbers = MatchStruct(*map(number, ("graph", "z", "fillers", "ncb", "rv", "qm"), (graph, z, fillers, ncb, rv, qm)))
-    bits = bytearray(min(number("e", e), (1 << 22) + 1))
-    first, room = room_of(bits)
+    bits, first, room = fresh_room(min(number("e", e), (1 << 22) + 1))
     status = library.nr_match(byref(numbers), given, len(given), byref(first), room)
     judge(status, ("d", len(given), {1: 66, 2: 50}.get(numbers.graph, 0) * numbers.z))
     return bits
@@ -58,7 +55,7 @@ def erase(heard: _Room, *, seed: Count, p: typing.SupportsFloat) -> _Room:
     """Erases drawn places of a buffer that can be written, each with probability `p`: they become ERASED, the others stay. Returns
     the buffer. The generator is that of the field pcg:seed:threshold of a schedule (docs/formats.md), and the threshold
     min(2^32 - 1, round(p 2^32))."""
-    if view_of(heard).format == "?":
+    if view_of(heard).format[-1:] == "?":
         raise TypeError("an array of bool has no room for ERASED: take one of uint8, as by .astype(numpy.uint8)")
     (first, room), drawn = room_of(heard), number("seed", seed, 2**64 - 1)
     judge(library.nr_erase(drawn, threshold_of(p), byref(first), room))

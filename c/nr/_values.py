@@ -6,6 +6,7 @@ import ctypes
 import fractions
 import functools
 import math
+import struct
 import typing
 import warnings
 
@@ -155,18 +156,11 @@ def octets_of(given: Octets) -> bytes:
     return bytes(given) if isinstance(given, (list, tuple)) else view_of(given).tobytes()
 
 
-def places_of(given: Octets, callers: int = 1) -> bytes:
-    """What was heard, with a warning if it looks like soft values, for the caller so many calls above."""
-    places = octets_of(given)
-    warn_of_soft(places, callers + 1)
-    return places
-
-
-def warn_of_soft(places: bytes, callers: int) -> None:
-    """Warns of items that are none of 0, 1 and ERASED."""
+def warn_of_soft(places: bytes) -> None:
+    """Warns who called the library of items that are none of 0, 1 and ERASED."""
     if places.translate(None, b"\0\1\2"):
         said = "items other than 0, 1 and 2 count as places where nothing was heard: nr.hard(llrs, threshold) takes soft values"
-        warnings.warn(said, stacklevel=callers + 2)
+        warnings.warn(said, stacklevel=3)
 
 
 def whole_octets_of(given: Octets, callers: int = 1) -> bytes:
@@ -184,13 +178,16 @@ def warn_of_bits(octets: bytes, callers: int) -> None:
         warnings.warn(said, stacklevel=callers + 2)
 
 
+def items_of(view: memoryview) -> bytes:
+    """The items of a buffer of whole numbers, whichever of their octets comes first, as an octet each."""
+    if view.itemsize == 1:
+        return view.tobytes()
+    return bytes(struct.unpack(f"{view.format[:-1]}{view.nbytes // view.itemsize}{view.format[-1]}", view.tobytes()))
+
+
 def packed(given: Octets) -> bytes:
     """The octets of bits, which are items 0 or 1 of any whole type, the first bit of an octet highest."""
-    if isinstance(given, (bytes, list, tuple)):
-        bits = bytes(given)
-    else:
-        view = memoryview(given)  # type: ignore[arg-type]
-        bits = view.tobytes() if view.itemsize == 1 else bytes(memoryview(view.tobytes()).cast(view.format).tolist())
+    bits = bytes(given) if isinstance(given, (bytes, list, tuple)) else items_of(memoryview(given))  # type: ignore[arg-type]
     if bits.translate(None, b"\0\1"):
         raise Fault(BIT)
     if len(bits) % 8:

@@ -54,9 +54,11 @@ static double item(const mxArray *given, size_t at) {
     return mxIsLogical(given) ? (double)mxGetLogicals(given)[at] : mxGetPr(given)[at];
 }
 
-/* A whole number of 32 bits, or an error that names it. */
+/* A whole number of 32 bits, or an error that names it. One that stands alone is of any class. */
 static uint32_t number(const mxArray *given, size_t at, const char *name) {
-    double value = is_plain(given) && at < mxGetNumberOfElements(given) ? item(given, at) : -1;
+    size_t count = mxGetNumberOfElements(given);
+    double value = is_plain(given) && at < count ? item(given, at) : -1;
+    if (mxIsNumeric(given) && !mxIsDouble(given) && !mxIsComplex(given) && count == 1 && !at) value = mxGetScalar(given);
     if (!(value >= 0 && value <= 4294967295.0) || value != floor(value))
         mexErrMsgIdAndTxt("nr:argument", "argument: %s is not a whole number from 0 to 4,294,967,295", name);
     return (uint32_t)value;
@@ -104,6 +106,12 @@ static uint8_t *octets_of(const mxArray *given, size_t *count) {
     return octets;
 }
 
+/* The same of one block: a column, or a row. */
+static uint8_t *block_octets_of(const mxArray *given, size_t *count) {
+    if (mxGetM(given) > 1 && mxGetN(given) > 1) wrong("one column of bits is wanted, and not several");
+    return octets_of(given, count);
+}
+
 /* A column of bits, of the class that another array has. */
 static mxArray *column(const uint8_t *bits, size_t count, const mxArray *like) {
     mxArray *made = mxIsLogical(like) ? mxCreateLogicalMatrix(count, 1) : mxCreateDoubleMatrix(count, 1, mxREAL);
@@ -143,7 +151,7 @@ static uint64_t seed_of(const mxArray *given, size_t at) {
     double value = is_plain(given) ? item(given, at) : -1;
     if (mxIsUint64(given)) return ((const uint64_t *)mxGetData(given))[at];
     if (!(value >= 0 && value < 18446744073709551616.0) || value != floor(value))
-        wrong("seeds are whole numbers from 0, below 2^64");
+        wrong("seeds are uint64 or doubles, and whole numbers from 0, below 2^64");
     return (uint64_t)value;
 }
 
@@ -181,6 +189,12 @@ static NrTx tx_of(const mxArray *numbers, const mxArray *blocks, size_t at) {
         tx.blocks[block / 64] |= (uint64_t)1 << block % 64;
     }
     return tx;
+}
+
+/* The transmission of such an array of one. */
+static NrTx one_tx(const mxArray *numbers, const mxArray *blocks) {
+    if (mxGetNumberOfElements(blocks) != 1) wrong("one transmission is wanted, and not several");
+    return tx_of(numbers, blocks, 0);
 }
 
 /* All transmissions of such an array. */

@@ -24,14 +24,19 @@ static void make_plan(mxArray **out, const mxArray **in) {
     for (int at = 0; at < 10; at++) mxSetField(out[0], 0, names[at], mxCreateDoubleScalar(numbers[at]));
 }
 
+/* C, or 0 of a block that has no plan: the call that it is for tells then why. */
+static uint32_t code_blocks(uint32_t rate2048, uint32_t a) {
+    NrPlan plan;
+    return nr_plan(rate2048, a, &plan) == NR_OK ? plan.c : 0;
+}
+
 /* nr_mex('lengths', RATE2048, A, NUMBERS, BLOCKS): E_r of each code block, a column of doubles. */
 static void make_lengths(mxArray **out, const mxArray **in) {
-    uint32_t rate = number(in[0], 0, "the code rate in 2048ths"), a = number(in[1], 0, "a"), lengths[344];
-    NrTx tx = tx_of(in[2], in[3], 0);
-    NrPlan plan = {0};
-    if (nr_plan(rate, a, &plan) != NR_OK) plan.c = 0;
-    judge(nr_lengths(rate, a, &tx, lengths, plan.c), 0);
-    out[0] = numbers_of(lengths, plan.c);
+    uint32_t rate = number(in[0], 0, "the code rate in 2048ths"), a = number(in[1], 0, "a");
+    uint32_t c = code_blocks(rate, a), lengths[344];
+    NrTx tx = one_tx(in[2], in[3]);
+    judge(nr_lengths(rate, a, &tx, lengths, c), 0);
+    out[0] = numbers_of(lengths, c);
 }
 
 /* nr_mex('buffer', [RATE2048 LBRM], A, RV): Ncb and k0. */
@@ -48,7 +53,7 @@ static void make_crc(mxArray **out, const mxArray **in) {
     uint32_t poly = number(in[0], 0, "the polynomial"), parity;
     uint8_t bits[24];
     size_t length, count = poly == NR_CRC16 ? 16 : 24;
-    const uint8_t *octets = octets_of(in[1], &length);
+    const uint8_t *octets = block_octets_of(in[1], &length);
     judge(nr_crc(poly, octets, length, &parity), 0);
     for (size_t at = 0; at < count; at++) bits[at] = parity >> (count - 1 - at) & 1;
     out[0] = column(bits, count, in[1]);
@@ -96,7 +101,7 @@ static void make_matched(mxArray **out, const mxArray **in) {
     uint32_t graph = number(in[2], 0, "the base graph"), wanted = number(in[1], 0, "e");
     NrMatch by = {graph, 0, 0, number(in[5], 0, "ncb"), number(in[3], 0, "rv"), number(in[4], 0, "qm"), {0, 0}};
     size_t coded = graph == 1 ? 66 : 50, z = rows / coded;
-    size_t e = wanted < MOST_PLACES ? wanted : MOST_PLACES + 1;
+    size_t e = wanted <= MOST_PLACES ? wanted : MOST_PLACES + 1;
     uint8_t *bits = mxMalloc(e + 1);
     if (rows % coded || z > 384) judge(NR_LIFTING, 0);
     by.z = (uint32_t)z;
@@ -113,7 +118,7 @@ static void make_matched(mxArray **out, const mxArray **in) {
 static void make_cut(mxArray **out, const mxArray **in) {
     size_t length;
     uint32_t rate = number(in[0], 0, "the code rate in 2048ths");
-    const uint8_t *block = octets_of(in[1], &length);
+    const uint8_t *block = block_octets_of(in[1], &length);
     uint8_t *all;
     NrPlan plan;
     judge(nr_plan(rate, length < MOST_BITS / 8 + 1 ? (uint32_t)(8 * length) : UINT32_MAX, &plan), 0);
@@ -128,8 +133,8 @@ static void make_sent(mxArray **out, const mxArray **in) {
     size_t count, length;
     const NrEntry *table = entries(in[0], &count);
     NrSettings settings = settings_of(in[1]);
-    const uint8_t *block = octets_of(in[2], &length);
-    NrTx tx = tx_of(in[3], in[4], 0);
+    const uint8_t *block = block_octets_of(in[2], &length);
+    NrTx tx = one_tx(in[3], in[4]);
     size_t room = tx.g < MOST_PLACES ? tx.g : MOST_PLACES;
     uint8_t *bits = mxMalloc(room + 1);
     judge(nr_send(table, count, &settings, block, length, &tx, bits, room), 0);
@@ -177,16 +182,14 @@ static void make_received(int outs, mxArray **out, const mxArray **in) {
     const NrEntry *table = entries(in[0], &count);
     NrSettings settings = settings_of(in[1]);
     NrTx *txs = txs_of(in[3], in[4], &some);
-    uint32_t a = number(in[2], 0, "a"), *outcomes = mxMalloc(4 * (some + 1)), left[344];
+    uint32_t a = number(in[2], 0, "a"), c = code_blocks(settings.rate2048, a), *outcomes = mxMalloc(4 * (some + 1)), left[344];
     uint8_t *heard, *octets = mxMalloc(MOST_BITS / 8);
-    NrPlan plan = {0};
-    if (nr_plan(settings.rate2048, a, &plan) != NR_OK) plan.c = 0;
     heard = joined(in[5], txs, some, &total);
-    judge(nr_receive(table, count, &settings, a, txs, some, heard, total, outcomes, some, left, plan.c, octets,
+    judge(nr_receive(table, count, &settings, a, txs, some, heard, total, outcomes, some, left, c, octets,
                      (a < MOST_BITS ? a : MOST_BITS) / 8), 0);
     out[0] = block_of(some ? outcomes[some - 1] : NR_OPEN, octets, a, some ? in_cell(in[5], 0) : NULL);
     if (outs > 1) out[1] = numbers_of(outcomes, some);
-    if (outs > 2) out[2] = numbers_of(left, plan.c);
+    if (outs > 2) out[2] = numbers_of(left, c);
 }
 
 /* [BLOCKS, OUTCOMES, LEFT] = nr_mex('receive_many', TABLE, [RATE2048 LBRM], A, NUMBERS, SCHEDULED, HEARD): a column of each for each
@@ -196,17 +199,15 @@ static void make_many_received(int outs, mxArray **out, const mxArray **in) {
     const NrEntry *table = entries(in[0], &count);
     NrSettings settings = settings_of(in[1]);
     NrTx *txs = txs_of(in[3], in[4], &some);
-    uint32_t a = number(in[2], 0, "a"), *outcomes = mxMalloc(4 * (some * blocks + 1)), *left;
+    uint32_t a = number(in[2], 0, "a"), c = code_blocks(settings.rate2048, a), *outcomes = mxMalloc(4 * (some * blocks + 1));
+    uint32_t *left = mxMalloc(4 * (c * blocks + 1));
     size_t size = (a < MOST_BITS ? a : MOST_BITS) / 8;
     uint8_t *octets = mxCalloc(size * blocks + 1, 1);
-    NrPlan plan = {0};
-    if (nr_plan(settings.rate2048, a, &plan) != NR_OK) plan.c = 0;
-    left = mxMalloc(4 * (plan.c * blocks + 1));
     judge(nr_receive_many(table, count, &settings, a, txs, some, blocks, bits_of(in[5], ERASED_TOO), mxGetNumberOfElements(in[5]),
-                          outcomes, some * blocks, left, plan.c * blocks, octets, size * blocks), 0);
+                          outcomes, some * blocks, left, c * blocks, octets, size * blocks), 0);
     out[0] = columns(bits_in(octets, 8 * size * blocks), a, blocks, in[5]);
     if (outs > 1) out[1] = shaped(outcomes, some, blocks, 1);
-    if (outs > 2) out[2] = shaped(left, plan.c, blocks, 1);
+    if (outs > 2) out[2] = shaped(left, c, blocks, 1);
 }
 
 /* nr_mex('start', TABLE, [RATE2048 LBRM], A): the room of a receiver that has received nothing, a column of uint8. */
@@ -226,20 +227,18 @@ static void make_taken(int outs, mxArray **out, const mxArray **in) {
     size_t count, places = mxGetNumberOfElements(in[6]);
     const NrEntry *table = entries(in[0], &count);
     NrSettings settings = settings_of(in[1]);
-    uint32_t a = number(in[2], 0, "a"), outcome = NR_OPEN, left[344];
-    NrTx tx = tx_of(in[4], in[5], 0);
+    uint32_t a = number(in[2], 0, "a"), c = code_blocks(settings.rate2048, a), outcome = NR_OPEN, left[344];
+    NrTx tx = one_tx(in[4], in[5]);
     uint8_t *octets = mxMalloc(MOST_BITS / 8);
-    NrPlan plan = {0};
-    if (nr_plan(settings.rate2048, a, &plan) != NR_OK) plan.c = 0;
     if (!mxIsUint8(in[3])) wrong("the room of a receiver is an array of uint8");
     if (places != tx.g) wrong_length("what was heard of transmission", 1, places, tx.g);
     out[0] = mxDuplicateArray(in[3]);
     judge(nr_receiver_take(table, count, &settings, a, (uint8_t *)mxGetData(out[0]), mxGetNumberOfElements(out[0]), &tx,
-                           bits_of(in[6], ERASED_TOO), places, &outcome, left, plan.c, octets,
+                           bits_of(in[6], ERASED_TOO), places, &outcome, left, c, octets,
                            (a < MOST_BITS ? a : MOST_BITS) / 8), 0);
     if (outs > 1) out[1] = block_of(outcome, octets, a, in[6]);
     if (outs > 2) out[2] = mxCreateDoubleScalar(outcome);
-    if (outs > 3) out[3] = numbers_of(left, plan.c);
+    if (outs > 3) out[3] = numbers_of(left, c);
 }
 
 /* [AFTER, LEFT, ERASED] = nr_mex('simulate', TABLE, [RATE2048 LBRM], A, NUMBERS, BLOCKS, THRESHOLDS, SEEDS): what comes of rounds.
@@ -249,20 +248,19 @@ static void make_simulated(int outs, mxArray **out, const mxArray **in) {
     const NrEntry *table = entries(in[0], &count);
     NrSettings settings = settings_of(in[1]);
     NrTx *txs = txs_of(in[3], in[4], &some);
-    uint32_t a = number(in[2], 0, "a"), *thresholds = mxMalloc(4 * (some + 1)), *after = mxMalloc(4 * (rounds + 1)), *left, *erased;
+    uint32_t a = number(in[2], 0, "a"), c = code_blocks(settings.rate2048, a), *left, *erased;
+    uint32_t *thresholds = mxMalloc(4 * (some + 1)), *after = mxMalloc(4 * (rounds + 1));
     uint64_t *seeds = mxMalloc(8 * (seeds_len + 1));
-    NrPlan plan = {0};
-    if (nr_plan(settings.rate2048, a, &plan) != NR_OK) plan.c = 0;
     for (size_t at = 0; at < some; at++) thresholds[at] = number(in[5], at, "the threshold");
     for (size_t at = 0; at < seeds_len; at++) seeds[at] = seed_of(in[6], at);
-    length = rounds * some * plan.c;
+    length = rounds * some * c;
     left = mxMalloc(4 * (length + 1));
     erased = mxMalloc(4 * (length + 1));
     judge(nr_simulate(table, count, &settings, a, txs, some, thresholds, some, seeds, seeds_len, after, rounds, left, length,
                       erased, length), 0);
     out[0] = numbers_of(after, rounds);
-    if (outs > 1) out[1] = shaped(left, plan.c, some, rounds);
-    if (outs > 2) out[2] = shaped(erased, plan.c, some, rounds);
+    if (outs > 1) out[1] = shaped(left, c, some, rounds);
+    if (outs > 2) out[2] = shaped(erased, c, some, rounds);
 }
 
 #define CALL(name, ins, call) \

@@ -1,6 +1,6 @@
 //! Finds the static library libnr.a, in this order:
 //! - in the folder that the environment's NR_DIR names, or in `lib` below it;
-//! - where pkg-config says that nr is;
+//! - where pkg-config says that nr of this version is;
 //! - in ../../../lib, where `make install` puts it beside this crate;
 //! - in ../out, where `make -C c` leaves it in a checkout.
 //!
@@ -48,10 +48,11 @@ fn first(places: &[PathBuf]) -> Option<PathBuf> {
     places.iter().find(|place| Path::new(place).join("libnr.a").is_file()).cloned()
 }
 
-/// The folder of the library by pkg-config, if there is one.
+/// The folder of the library by pkg-config, if there is one of this version.
 fn said_by_pkg_config() -> Option<PathBuf> {
     let tool = env::var_os("PKG_CONFIG").unwrap_or("pkg-config".into());
-    let said = Command::new(tool).args(["--libs-only-L", "nr"]).output().ok()?;
+    let wanted = concat!("nr = ", env!("CARGO_PKG_VERSION"));
+    let said = Command::new(tool).args(["--libs-only-L", wanted]).output().ok()?;
     let words = String::from_utf8(said.stdout).ok()?;
     let folder = words.trim().strip_prefix("-L")?.replace("\\ ", " ");
     said.status.success().then(|| PathBuf::from(folder))

@@ -56,15 +56,15 @@ faults! {
         40 Size "a transport block has 8 to 1,310,720 bits in whole octets",
         41 RateRange "the code rate is 1 to 2048 in 2048ths",
         45 Uneven "the code blocks of this transport block would not be equally long (5.2.2)",
-        46 Graph "the table has no entries of this transport block's base graph",
+        46 Graph "the table has no entries of the base graph, or there is none of this number",
         47 NoBuffer "lbrm keeps no bit of a code block, or ncb is not 1 to N (5.4.2.1)",
         50 Rv "the redundancy version is above 3",
         51 Order "qm is none of 1, 2, 4, 6 and 8",
         52 Layers "nl is not 1 to 4",
         53 Total "g is not 1 to 4,194,304",
-        54 Ragged "g is no multiple of qm * nl",
+        54 Ragged "g is no multiple of qm * nl, or a code block's bits are none of qm",
         55 NoneScheduled "no code block of this transport block is scheduled",
-        56 Length "a list does not have the length that it should: K' bits of a code block, or G places of a transmission",
+        56 Length "a list does not have the length that it should: K' or N bits of a code block, or G places of a transmission",
     }
 }
 

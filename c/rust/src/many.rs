@@ -11,7 +11,7 @@ use crate::{raw, Fault, Received, Settings, Table, Tx};
 /// transmission; `Memory`.
 pub fn send_many(table: &Table, link: &Settings, a: u32, txs: &[Tx], blocks: &[u8]) -> Result<Vec<u8>, Fault> {
     let listed: Vec<raw::Tx> = txs.iter().map(Into::into).collect();
-    let count = blocks.len() / (a as usize / 8).max(1);
+    let count = blocks.len().checked_div(a as usize / 8).unwrap_or(0);
     let mut bits = vec![0; count * txs.iter().map(|tx| tx.g.min(MOST_PLACES) as usize).sum::<usize>()];
     call!(nr_send_many: ref table.entries(), &link.into(), a, ref listed, count, ref blocks, mut bits)?;
     Ok(bits)
@@ -25,7 +25,7 @@ pub fn send_many(table: &Table, link: &Settings, a: u32, txs: &[Tx], blocks: &[u
 /// transmission; `Memory`.
 pub fn receive_many(table: &Table, link: &Settings, a: u32, txs: &[Tx], heard: &[u8]) -> Result<Vec<Received>, Fault> {
     let listed: Vec<raw::Tx> = txs.iter().map(Into::into).collect();
-    let count = heard.len() / txs.iter().map(|tx| tx.g as usize).sum::<usize>().max(1);
+    let count = heard.len().checked_div(txs.iter().map(|tx| tx.g as usize).sum()).unwrap_or(0);
     let (n, (c, octets)) = (txs.len(), sizes(link.rate2048, a));
     let (mut outcomes, mut left, mut blocks) = (vec![0; count * n], vec![0; count * c], vec![0; count * octets]);
     call!(
