@@ -1,6 +1,7 @@
 /* The beats of stages: as they are read, and as they are judged. */
 #include "nr_held.h"
 
+#include <stdarg.h>
 #include <stdio.h>
 #include <string.h>
 
@@ -25,13 +26,6 @@ const uint8_t *nr_stage_of(const NrStages *stages, uint32_t stage, uint32_t r, u
 }
 
 static void set(uint32_t *words, uint32_t at) { words[at / 32] |= (uint32_t)1 << at % 32; }
-
-static uint32_t is_set(const uint32_t *words, uint32_t at) { return words[at / 32] >> at % 32 & 1; }
-
-/* Where bit i of a beat stands in tdata. */
-static uint32_t lane_of(const NrPlace *place, uint32_t i) {
-    return place->first == NR_FIRST_HIGHEST ? place->width - 1 - i : i;
-}
 
 /* The bits of a beat, and how many there are: 0 if the beat is past them. */
 static uint32_t bits_of(NrStaged *it, const NrPlace *place, const uint8_t **bits, uint32_t *count) {
@@ -72,14 +66,12 @@ uint32_t nr_golden_block(void *golden, uint32_t r, NrBuffer *buffer, uint32_t *e
     return NR_OK;
 }
 
-/* Makes a beat of `count` bits that are there, and marks where each stands. */
-static void fill(const NrStaged *it, const NrPlace *place, const uint8_t *bits, uint32_t count, NrBeat *beat, uint32_t *there) {
+/* Makes a beat of `count` bits that are there. */
+static void fill(const NrStaged *it, const NrPlace *place, const uint8_t *bits, uint32_t count, NrBeat *beat) {
     uint32_t all = 0;
     memset(beat, 0, sizeof *beat);
-    memset(there, 0, sizeof beat->data);
     for (uint32_t i = 0; i < count; i++) {
-        uint32_t lane = lane_of(place, i);
-        set(there, lane);
+        uint32_t lane = nr_lane(place, i);
         if (bits[i]) set(bits[i] == NR_FILLER ? beat->filler : beat->data, lane);
         set(beat->keep, lane / 8);
     }
@@ -91,10 +83,10 @@ static void fill(const NrStaged *it, const NrPlace *place, const uint8_t *bits, 
 uint32_t nr_golden_beat(void *golden, const NrPlace *place, NrBeat *beat) {
     NrStaged *it = staged(golden);
     const uint8_t *bits;
-    uint32_t count = 0, there[NR_DATA_WORDS], status = bits_of(it, place, &bits, &count);
+    uint32_t count = 0, status = bits_of(it, place, &bits, &count);
     if (status != NR_OK) return status;
     if (!count) return NR_GOLDEN_BEAT;
-    fill(it, place, bits, count, beat, there);
+    fill(it, place, bits, count, beat);
     return NR_OK;
 }
 
@@ -110,69 +102,54 @@ static void say_stage(NrStaged *it, const NrPlace *place, uint32_t bit) {
         snprintf(it->said, sizeof it->said, "%s of code block r = %u: ", STAGE_NAMES[place->stage], r);
 }
 
-/* Where the text goes on. */
-static char *more(NrStaged *it, size_t *room) {
+/* Says what of this is wrong. */
+static uint32_t differs(NrStaged *it, const NrPlace *place, uint32_t bit, const char *form, ...) {
+    va_list given;
+    say_stage(it, place, bit);
     size_t used = strlen(it->said);
-    *room = sizeof it->said - used;
-    return it->said + used;
+    va_start(given, form);
+    vsnprintf(it->said + used, sizeof it->said - used, form, given);
+    va_end(given);
+    return NR_GOLDEN_DIFFERS;
 }
 
 /* A beat where no bit is left. */
 static uint32_t one_too_many(NrStaged *it, const NrPlace *place) {
     uint32_t all = 0;
-    size_t room;
     nr_stage_of(&it->stages, place->stage, place->r, &all);
-    say_stage(it, place, all);
-    char *text = more(it, &room);
-    snprintf(text, room, "beat %u is one too many, there are %u bits", place->beat, all);
-    return NR_GOLDEN_DIFFERS;
+    return differs(it, place, all, "beat %u is one too many, there are %u bits", place->beat, all);
 }
 
 uint32_t nr_golden_judge(void *golden, const NrPlace *place, const uint32_t *data, const uint32_t *unknown) {
     NrStaged *it = staged(golden);
     const uint8_t *bits;
-    NrBeat right;
-    uint32_t count = 0, wrong = 0, there[NR_DATA_WORDS], status = bits_of(it, place, &bits, &count);
+    uint32_t count = 0, status = bits_of(it, place, &bits, &count);
     if (status != NR_OK) return status;
     if (!count) return one_too_many(it, place);
-    fill(it, place, bits, count, &right, there);
-    for (int i = 0; i < NR_DATA_WORDS; i++) wrong |= ((data[i] ^ right.data[i]) | unknown[i]) & there[i] & ~right.filler[i];
-    if (!wrong) return NR_OK;
     for (uint32_t i = 0; i < count; i++) {
-        uint32_t lane = lane_of(place, i), bit = place->beat * place->width + i;
-        if (bits[i] == NR_FILLER || (is_set(data, lane) == bits[i] && !is_set(unknown, lane))) continue;
-        size_t room;
-        say_stage(it, place, bit);
-        char *text = more(it, &room);
-        const char *is = is_set(unknown, lane) ? "X or Z" : is_set(data, lane) ? "1" : "0";
-        snprintf(text, room, "bit %u is %s, right is %u (beat %u, tdata[%u])", bit, is, bits[i], place->beat, lane);
-        break;
+        uint32_t lane = nr_lane(place, i), bit = place->beat * place->width + i;
+        if (bits[i] == NR_FILLER || (nr_bit(data, lane) == bits[i] && !nr_bit(unknown, lane))) continue;
+        const char *is = nr_bit(unknown, lane) ? "X or Z" : nr_bit(data, lane) ? "1" : "0";
+        return differs(it, place, bit, "bit %u is %s, right is %u (beat %u, tdata[%u])", bit, is, bits[i], place->beat, lane);
     }
-    return NR_GOLDEN_DIFFERS;
+    return NR_OK;
 }
 
 uint32_t nr_golden_judge_sides(void *golden, const NrPlace *place, const uint32_t *keep, uint32_t last) {
     NrStaged *it = staged(golden);
     const uint8_t *bits;
     NrBeat right;
-    uint32_t count = 0, there[NR_DATA_WORDS], status = bits_of(it, place, &bits, &count);
+    uint32_t count = 0, status = bits_of(it, place, &bits, &count);
     if (status != NR_OK) return status;
     if (!count) return one_too_many(it, place);
-    fill(it, place, bits, count, &right, there);
-    size_t room;
-    for (uint32_t lane = 0; 8 * lane < place->width; lane++) {
-        if (is_set(keep, lane) == is_set(right.keep, lane)) continue;
-        say_stage(it, place, place->beat * place->width);
-        char *text = more(it, &room);
-        snprintf(text, room, "tkeep[%u] of beat %u is %u, right is %u", lane, place->beat, is_set(keep, lane),
-                 is_set(right.keep, lane));
-        return NR_GOLDEN_DIFFERS;
-    }
+    fill(it, place, bits, count, &right);
+    uint32_t bit = place->beat * place->width;
+    for (uint32_t lane = 0; 8 * lane < place->width; lane++)
+        if (nr_bit(keep, lane) != nr_bit(right.keep, lane))
+            return differs(it, place, bit, "tkeep[%u] of beat %u is %u, right is %u", lane, place->beat, nr_bit(keep, lane),
+                           nr_bit(right.keep, lane));
     if ((last != 0) == right.last) return NR_OK;
-    say_stage(it, place, place->beat * place->width);
-    char *text = more(it, &room);
-    snprintf(text, room, "tlast of beat %u is %u, right is %u", place->beat, last != 0, right.last);
-    return NR_GOLDEN_DIFFERS;
+    return differs(it, place, bit, "tlast of beat %u is %u, right is %u", place->beat, last != 0, right.last);
 }
 
 const char *nr_golden_said(void *golden) {

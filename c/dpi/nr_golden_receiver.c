@@ -92,15 +92,13 @@ uint32_t nr_golden_receiver_hear(void *receiver, const NrPlace *place, const uin
     if (place->width < 1 || place->width > NR_WIDEST) return NR_GOLDEN_WIDTH;
     uint64_t from = (uint64_t)place->beat * place->width, end = from;
     /* As far as something is heard. */
-    for (uint32_t i = 0; i < place->width; i++) {
-        uint32_t lane = place->first == NR_FIRST_HIGHEST ? place->width - 1 - i : i;
-        if (!(erased[lane / 32] >> lane % 32 & 1)) end = from + i + 1;
-    }
+    for (uint32_t i = 0; i < place->width; i++)
+        if (!nr_bit(erased, nr_lane(place, i))) end = from + i + 1;
     if (end > NR_MOST_SENT) return NR_GOLDEN_BEAT;
-    uint32_t status = grow(&it->next, (size_t)end);
+    uint32_t status = end > from ? grow(&it->next, (size_t)end) : (uint32_t)NR_OK;
     for (uint32_t i = 0; status == NR_OK && from + i < end; i++) {
-        uint32_t lane = place->first == NR_FIRST_HIGHEST ? place->width - 1 - i : i;
-        if (!(erased[lane / 32] >> lane % 32 & 1)) it->next.items[from + i] = (uint8_t)(data[lane / 32] >> lane % 32 & 1);
+        uint32_t lane = nr_lane(place, i);
+        if (!nr_bit(erased, lane)) it->next.items[from + i] = (uint8_t)nr_bit(data, lane);
     }
     return status;
 }

@@ -21,6 +21,12 @@ void *nr_held_new(enum NrKind kind, size_t octets);
 void *nr_held(void *handle, unsigned kinds);
 void *nr_held_taken(void **handle, enum NrKind kind);
 
+/* Where bit i of a beat stands in tdata, and a bit of words of 32. */
+static inline uint32_t nr_lane(const NrPlace *place, uint32_t i) {
+    return place->first == NR_FIRST_HIGHEST ? place->width - 1 - i : i;
+}
+static inline uint32_t nr_bit(const uint32_t *words, uint32_t at) { return words[at / 32] >> at % 32 & 1; }
+
 /* The stages of a transport block, in one piece of memory: NULL if there is none. e and f of code block r begin at offset[r]. */
 typedef struct NrStages {
     uint8_t *memory, *first[NR_STAGES];

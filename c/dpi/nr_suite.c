@@ -87,8 +87,9 @@ static int read_pair(NrSuite *suite, NrSettings *settings, const char *name, con
         if (strcmp(name, NAMES[i])) continue;
         if (i == 1 && !strcmp(value, "-")) return 1;
         char *end;
-        *into[i] = (uint32_t)strtoul(value, &end, 10);
-        return *value >= '0' && *value <= '9' && strlen(value) < 11 && !*end;
+        unsigned long found = strtoul(value, &end, 10);
+        *into[i] = (uint32_t)found;
+        return *value >= '0' && *value <= '9' && strlen(value) < 11 && found <= UINT32_MAX && !*end;
     }
     return 0;
 }
@@ -184,17 +185,15 @@ uint32_t nr_golden_expect(void *golden, const NrPlace *place) {
     return status;
 }
 
-static uint32_t is_set(const uint32_t *words, uint32_t at) { return words[at / 32] >> at % 32 & 1; }
-
 /* Keeps the bits of a beat whose octets are kept; a filler is `-`. What stands past the right ones in the last octet is not. */
 static void keep_bits(NrStaged *it, Given *mine, const uint32_t *data, const uint32_t *keep, int last) {
     uint32_t right = 0, width = mine->place.width;
     const uint8_t *bits = nr_stage_of(&it->stages, mine->place.stage, mine->place.r, &right);
     size_t most = (size_t)right + MOST_TOO_MANY;
     for (uint32_t i = 0; i < width && mine->count - mine->from < most; i++) {
-        uint32_t lane = mine->place.first == NR_FIRST_HIGHEST ? width - 1 - i : i;
+        uint32_t lane = nr_lane(&mine->place, i);
         size_t at = mine->count - mine->from;
-        if (is_set(keep, lane / 8)) mine->text[mine->count++] = at < right && bits[at] == NR_FILLER ? '-' : (char)('0' + is_set(data, lane));
+        if (nr_bit(keep, lane / 8)) mine->text[mine->count++] = at < right && bits[at] == NR_FILLER ? '-' : (char)('0' + nr_bit(data, lane));
     }
     size_t found = mine->count - mine->from;
     if (last && width >= 8 && found > right && found < (size_t)right + 8) mine->count = mine->from + right;
