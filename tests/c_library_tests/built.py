@@ -18,7 +18,7 @@ import types
 import typing
 import unittest
 
-import archive as made
+import archive as making
 
 ROOT = pathlib.Path(__file__).resolve().parent.parent.parent
 C = ROOT / "c"
@@ -38,7 +38,7 @@ _module: types.ModuleType | None = None
 def use(archive: pathlib.Path | None, program: pathlib.Path) -> None:
     """Names the archive, which is made if none is given, and the program linksim, and builds both libraries."""
     global _archive, _program, _calls
-    _archive, _program = (archive or made.made()).resolve(), program.resolve()
+    _archive, _program = (archive or making.made()).resolve(), program.resolve()
     objects = FOLDER / "objects"
     objects.mkdir()
     for path in (_archive, allocator()):
@@ -66,7 +66,7 @@ def archive() -> pathlib.Path:
 
 def allocator() -> pathlib.Path:
     """The kit's archive that has the allocator's three calls."""
-    return made.kit() / "c" / "liblibc_c.a"
+    return making.kit() / "c" / "liblibc_c.a"
 
 
 def program() -> pathlib.Path:
@@ -110,6 +110,14 @@ def needs(*tools: str) -> str:
     raise unittest.SkipTest(f"no {' or '.join(tools)}")
 
 
+def numpy() -> types.ModuleType:
+    """The module numpy; a test without it is skipped."""
+    try:
+        return importlib.import_module("numpy")
+    except ImportError:
+        raise unittest.SkipTest("no numpy") from None
+
+
 def module() -> types.ModuleType:
     """The Python module nr, over the library."""
     global _module
@@ -124,6 +132,32 @@ def for_python() -> dict[str, str]:
     """The environment of a Python program over the library."""
     found = os.pathsep.join(filter(None, [str(C), os.environ.get("PYTHONPATH")]))
     return {**os.environ, "NR_LIBRARY": str(LIBRARY), "PYTHONPATH": found, "PYTHONDONTWRITEBYTECODE": "1"}
+
+
+def fault_of(call: typing.Callable[..., object], *given: typing.Any, **more: typing.Any) -> typing.Any:
+    """The fault with which the module refuses a call."""
+    try:
+        call(*given, **more)
+    except module().Fault as fault:
+        return fault
+    raise AssertionError("no fault")
+
+
+def link_words(
+    folder: pathlib.Path, table: bytes, link: tuple[int, int], blocks: list[bytes], schedule: str
+) -> list[str | pathlib.Path]:
+    """Writes the files of a link, its rate and limit among them, and gives the words by which the program reads them."""
+    rate2048, lbrm = link
+    limit = f"lbrm = {lbrm}\n" if lbrm else ""
+    texts = {
+        "table": table, "settings": f"rate2048 = {rate2048}\n{limit}".encode(),
+        "blocks": "".join(it.hex() + "\n" for it in blocks).encode(), "schedule": schedule.encode(),
+    }
+    words: list[str | pathlib.Path] = []
+    for name, text in texts.items():
+        (folder / name).write_bytes(text)
+        words += [f"--{name}", folder / name]
+    return words
 
 
 def others_run(call: typing.Callable[[], object]) -> bool:
@@ -167,6 +201,14 @@ class InFolder(unittest.TestCase):
         path = self.folder / name
         path.write_text(text)
         return path
+
+
+class OfModule(unittest.TestCase):
+    """Calls of the Python module nr over the practice table."""
+
+    def setUp(self) -> None:
+        self.nr = module()
+        self.table = self.nr.Table(PRACTICE.read_bytes())
 
 
 class Tx(ctypes.Structure):
@@ -294,3 +336,15 @@ def call(name: str, *given: typing.Any) -> int:
     answer.restype = ctypes.c_uint32
     status: int = answer(*passed)
     return status
+
+
+def written(room: Room, name: str, *given: typing.Any) -> Room:
+    """The room that a call has written, which is done."""
+    status = call(name, *given, room)
+    assert status == 0, f"{name}: status {status}"
+    return room
+
+
+def made(count: int, name: str, *given: typing.Any) -> bytes:
+    """What a call writes to so many octets."""
+    return written(Room(count), name, *given).octets()

@@ -8,14 +8,17 @@ import built
 from model import coding
 
 
+def receiver_size(rate2048: int, a: int) -> int:
+    """How many octets the room of a receiver has."""
+    return int.from_bytes(built.written(built.counter(), "nr_receiver_size", rate2048, a).octets(), "little")
+
+
 class Kept:
     """A receiver as C keeps it: its room, and the rooms that a call writes."""
 
     def __init__(self, table: built.Table, settings: typing.Any, a: int) -> None:
         self.given = table, settings, a
-        size = built.counter()
-        assert built.call("nr_receiver_size", settings[0], a, size) == 0
-        self.room = built.Room(int.from_bytes(size.octets(), "little"))
+        self.room = built.Room(receiver_size(settings[0], a))
         self.status = built.call("nr_receiver_start", *self.given, self.room)
 
     def put(self, octets: bytes) -> None:

@@ -59,15 +59,11 @@ static uint32_t check_table(void) { return nr_table_check(text, text_len, &rooms
 
 static uint32_t check_bad_table(void) { return nr_table_check(text, text_len - 3, &rooms.report); }
 
-static uint32_t check_long_table(void) { return nr_table_check(long_text, LONG, &rooms.report); }
-
 static uint32_t list(void) { return nr_table_entries(text, text_len, rooms.entries, ENTRIES, &rooms.count); }
 
 static uint32_t list_in_less(void) { return nr_table_entries(text, text_len, rooms.entries, ENTRIES - 1, &rooms.count); }
 
 static uint32_t list_bad(void) { return nr_table_entries(text, text_len - 3, rooms.entries, ENTRIES, &rooms.count); }
-
-static uint32_t list_long(void) { return nr_table_entries(long_text, LONG, rooms.entries, ENTRIES, &rooms.count); }
 
 static uint32_t crc(void) { return nr_crc(NR_CRC24A, block, OCTETS, &rooms.parity); }
 
@@ -94,8 +90,9 @@ static uint32_t selection(void) {
 }
 
 /* The same by its own numbers: base graph 1, Zc = 15, 18 fillers, all of d. */
+static const NrMatch numbers = {1, 15, 18, 990, 0, 4, {0, 0}};
+
 static uint32_t matching(void) {
-    static const NrMatch numbers = {1, 15, 18, 990, 0, 4, {0, 0}};
     static uint8_t d[990];
     memset(d + 282, NR_FILLER, 18);
     return nr_match(&numbers, d, sizeof d, rooms.bits, G);
@@ -136,13 +133,6 @@ static uint32_t take(void) {
     return status;
 }
 
-static uint32_t start_unplaced(void) { return nr_receiver_start(unplaced, ENTRIES, &settings, 0, rooms.kept, 0); }
-
-static uint32_t take_unplaced(void) {
-    return nr_receiver_take(unplaced, ENTRIES, &settings, 0, rooms.kept, 0, txs, heard, 1, rooms.outcomes, &rooms.left, 0, rooms.block,
-                            0);
-}
-
 /* Rounds of two transmissions: 64 side by side, and two. */
 static uint32_t simulate(void) {
     static const uint32_t thresholds[] = {0xFFFFFFFF, 0};
@@ -150,43 +140,6 @@ static uint32_t simulate(void) {
     return nr_simulate(table, table_len, &settings, 8 * OCTETS, txs, 2, thresholds, 2, seeds, 2 * ROUNDS, rooms.outcomes, ROUNDS,
                        rooms.rows, 2 * ROUNDS, rooms.erased, 2 * ROUNDS);
 }
-
-static uint32_t code_unplaced(void) { return nr_codeword(unplaced, ENTRIES, 0, 0, block, 1, rooms.coded, 1); }
-
-static uint32_t send_unplaced(void) { return nr_send(unplaced, ENTRIES, &settings, block, 0, txs, rooms.bits, 1); }
-
-static uint32_t send_many_unplaced(void) {
-    return nr_send_many(unplaced, ENTRIES, &settings, 0, txs, 1, 1, NULL, 0, rooms.bits, 1);
-}
-
-static uint32_t receive_many_unplaced(void) {
-    return nr_receive_many(unplaced, ENTRIES, &settings, 0, txs, 1, 1, NULL, 0, rooms.outcomes, 2, rooms.rows, 1, rooms.block, 1);
-}
-
-static uint32_t receive_unplaced(void) {
-    return nr_receive(unplaced, ENTRIES, &settings, 0, txs, 2, heard, 1, rooms.outcomes, 1, &rooms.left, 0, rooms.block, 0);
-}
-
-static uint32_t simulate_unplaced(void) {
-    return nr_simulate(unplaced, ENTRIES, &settings, 0, txs, 2, NULL, 0, NULL, 0, rooms.outcomes, 2, rooms.rows, 0, rooms.erased, 0);
-}
-
-static uint32_t encode_unplaced(void) { return nr_encode(unplaced, ENTRIES, 0, 0, block, 1, rooms.coded, 1); }
-
-static uint32_t cut_nothing(void) { return nr_cut(2048, block, 0, 0, rooms.bits, 0); }
-
-static uint32_t cut_past_the_end(void) { return nr_cut(2048, block, OCTETS, 1, rooms.bits, 312); }
-
-static uint32_t cut_in_less(void) { return nr_cut(2048, block, OCTETS, 0, rooms.bits, 311); }
-
-static uint32_t select_of_less(void) { return nr_select(&settings, 8 * OCTETS, 0, block, OCTETS, rooms.bits, G); }
-
-static uint32_t match_of_less(void) {
-    static const NrMatch numbers = {1, 15, 18, 990, 0, 4, {0, 0}};
-    return nr_match(&numbers, block, OCTETS, rooms.bits, G);
-}
-
-static uint32_t interleave_in_less(void) { return nr_interleave(1, NULL, 0, rooms.bits, G); }
 
 static int is_right(const char *name) {
     if (!strcmp(name, "nr_table_entries")) return rooms.count == ENTRIES && !memcmp(rooms.entries, table, sizeof rooms.entries);
@@ -244,26 +197,35 @@ static void refused_first(const char *name, uint32_t (*call)(void), uint32_t due
     }
 }
 
-/* The faults that are told whatever memory there is. */
-static void refuse_first(void) {
-    refused_first("nr_table_check", check_long_table, NR_TOO_LONG, 0);
-    refused_first("nr_table_entries", list_long, NR_TOO_LONG, 0);
-    refused_first("nr_codeword", code_unplaced, NR_ENTRIES, 1);
-    refused_first("nr_send", send_unplaced, NR_ENTRIES, 1);
-    refused_first("nr_send_many", send_many_unplaced, NR_ENTRIES, 1);
-    refused_first("nr_receive", receive_unplaced, NR_ENTRIES, 1);
-    refused_first("nr_receive_many", receive_many_unplaced, NR_ENTRIES, 1);
-    refused_first("nr_receiver_start", start_unplaced, NR_ENTRIES, 1);
-    refused_first("nr_receiver_take", take_unplaced, NR_ENTRIES, 1);
-    refused_first("nr_simulate", simulate_unplaced, NR_ENTRIES, 1);
-    refused_first("nr_encode", encode_unplaced, NR_ENTRIES, 1);
-    refused_first("nr_cut", cut_nothing, NR_SIZE, 0);
-    refused_first("nr_cut", cut_past_the_end, NR_CODE_BLOCK, 0);
-    refused_first("nr_cut", cut_in_less, NR_ROOM, 0);
-    refused_first("nr_select", select_of_less, NR_LENGTH, 0);
-    refused_first("nr_interleave", interleave_in_less, NR_ROOM, 0);
-    refused_first("nr_match", match_of_less, NR_LENGTH, 0);
-}
+/* The faults that are told whatever memory there is: a call, its fault, after how many growths at most, and what it is given. */
+#define FIRST(FAULT) \
+    FAULT(nr_table_check, NR_TOO_LONG, 0, (long_text, LONG, &rooms.report)) \
+    FAULT(nr_table_entries, NR_TOO_LONG, 0, (long_text, LONG, rooms.entries, ENTRIES, &rooms.count)) \
+    FAULT(nr_codeword, NR_ENTRIES, 1, (unplaced, ENTRIES, 0, 0, block, 1, rooms.coded, 1)) \
+    FAULT(nr_send, NR_ENTRIES, 1, (unplaced, ENTRIES, &settings, block, 0, txs, rooms.bits, 1)) \
+    FAULT(nr_send_many, NR_ENTRIES, 1, (unplaced, ENTRIES, &settings, 0, txs, 1, 1, NULL, 0, rooms.bits, 1)) \
+    FAULT(nr_receive, NR_ENTRIES, 1, \
+          (unplaced, ENTRIES, &settings, 0, txs, 2, heard, 1, rooms.outcomes, 1, &rooms.left, 0, rooms.block, 0)) \
+    FAULT(nr_receive_many, NR_ENTRIES, 1, \
+          (unplaced, ENTRIES, &settings, 0, txs, 1, 1, NULL, 0, rooms.outcomes, 2, rooms.rows, 1, rooms.block, 1)) \
+    FAULT(nr_receiver_start, NR_ENTRIES, 1, (unplaced, ENTRIES, &settings, 0, rooms.kept, 0)) \
+    FAULT(nr_receiver_take, NR_ENTRIES, 1, \
+          (unplaced, ENTRIES, &settings, 0, rooms.kept, 0, txs, heard, 1, rooms.outcomes, &rooms.left, 0, rooms.block, 0)) \
+    FAULT(nr_simulate, NR_ENTRIES, 1, \
+          (unplaced, ENTRIES, &settings, 0, txs, 2, NULL, 0, NULL, 0, rooms.outcomes, 2, rooms.rows, 0, rooms.erased, 0)) \
+    FAULT(nr_encode, NR_ENTRIES, 1, (unplaced, ENTRIES, 0, 0, block, 1, rooms.coded, 1)) \
+    FAULT(nr_cut, NR_SIZE, 0, (2048, block, 0, 0, rooms.bits, 0)) \
+    FAULT(nr_cut, NR_CODE_BLOCK, 0, (2048, block, OCTETS, 1, rooms.bits, 312)) \
+    FAULT(nr_cut, NR_ROOM, 0, (2048, block, OCTETS, 0, rooms.bits, 311)) \
+    FAULT(nr_select, NR_LENGTH, 0, (&settings, 8 * OCTETS, 0, block, OCTETS, rooms.bits, G)) \
+    FAULT(nr_interleave, NR_ROOM, 0, (1, NULL, 0, rooms.bits, G)) \
+    FAULT(nr_match, NR_LENGTH, 0, (&numbers, block, OCTETS, rooms.bits, G))
+
+#define FUNCTION(call, due, growths, given) static uint32_t call##_##due(void) { return call given; }
+FIRST(FUNCTION)
+
+#define TEST(call, due, growths, given) refused_first(#call, call##_##due, due, growths);
+static void refuse_first(void) { FIRST(TEST) }
 
 int main(int count, char **words) {
     text = text_of(count > 1 ? words[1] : NULL, &text_len);

@@ -27,9 +27,8 @@ class Answers(unittest.TestCase):
             for number, (degree, polynomial) in enumerate(polynomials):
                 with self.subTest(length=length, number=number):
                     parity = encoder.with_crc(encoder.bits_of(octets), (degree, polynomial))[8 * length :]
-                    room = built.struct()
-                    self.assertEqual(built.call("nr_crc", number, octets, room), 0)
-                    self.assertEqual(room.numbers(), [int("".join(map(str, parity)), 2)])
+                    found = built.written(built.struct(), "nr_crc", number, octets).numbers()
+                    self.assertEqual(found, [int("".join(map(str, parity)), 2)])
 
     def test_plan(self) -> None:
         for a in [8, 176, 184, 192, 288, 296, 544, 552, 624, 632, 3816, 3824, 3832, 8424, 8432, 12264, 100_008, 1_310_688]:
@@ -43,15 +42,12 @@ class Answers(unittest.TestCase):
                         self.assertTrue(room.is_unwritten())
 
     def test_the_plan_of_readme(self) -> None:
-        room = built.struct(12)
-        self.assertEqual(built.call("nr_plan", 2048, 8, room), 0)
-        self.assertEqual(room.numbers(), [2, 24, 0, 1, 24, 6, 4, 0, 40, 200, 0, 0])
+        found = built.written(built.struct(12), "nr_plan", 2048, 8).numbers()
+        self.assertEqual(found, [2, 24, 0, 1, 24, 6, 4, 0, 40, 200, 0, 0])
 
     def test_tables(self) -> None:
         for text, counts in [(PRACTICE, [0, 105]), (DRAWN, [316, 0]), (PRACTICE + DRAWN, [316, 105])]:
-            room = built.struct(4)
-            self.assertEqual(built.call("nr_table_check", text, room), 0)
-            self.assertEqual(room.numbers(), [*counts, 0, 0])
+            self.assertEqual(built.written(built.struct(4), "nr_table_check", text).numbers(), [*counts, 0, 0])
 
     def test_entries(self) -> None:
         """The entries of a text, in the order of their places whatever the order of its records."""
@@ -66,10 +62,8 @@ class Answers(unittest.TestCase):
 
     def check_sent(self, text: bytes, octets: bytes, tx: typing.Any, rate2048: int, lbrm: int = 0) -> None:
         with self.subTest(a=8 * len(octets), rv=tx.rv, g=tx.g, qm=tx.qm, nl=tx.nl, lbrm=lbrm):
-            room = built.Room(tx.g)
-            status = built.call("nr_send", built.table(text), built.settings(rate2048, lbrm), octets, tx, room)
-            self.assertEqual(status, 0)
-            self.assertEqual(room.octets(), coding.sent(text, octets, tx, rate2048, lbrm))
+            found = built.made(tx.g, "nr_send", built.table(text), built.settings(rate2048, lbrm), octets, tx)
+            self.assertEqual(found, coding.sent(text, octets, tx, rate2048, lbrm))
 
     def test_sent(self) -> None:
         both = PRACTICE + DRAWN
@@ -93,9 +87,8 @@ class Answers(unittest.TestCase):
             (built.tx(24, qm=4), "000a51"),
             (built.tx(40, rv=3), "8000002102"),
         ]:
-            room = built.Room(tx.g)
-            self.assertEqual(built.call("nr_send", PRACTICE_TABLE, built.settings(2048), b"\1", tx, room), 0)
-            self.assertEqual(encoder.octets_of(list(room.octets())).hex(), wanted)
+            bits = built.made(tx.g, "nr_send", PRACTICE_TABLE, built.settings(2048), b"\1", tx)
+            self.assertEqual(encoder.octets_of(list(bits)).hex(), wanted)
 
     def test_coded(self) -> None:
         """The code blocks and their codewords, with fillers and without, and the buffer, by which the model sends."""
@@ -106,23 +99,19 @@ class Answers(unittest.TestCase):
             plan = coding.plan(a, rate2048)
             block, fillers = draw.randbytes(octets), bytes([2]) * (plan["k"] - plan["kdash"])
             for r, bits in enumerate(coding.code_blocks(block, plan)):
-                cut = built.Room(plan["kdash"])
-                self.assertEqual(built.call("nr_cut", rate2048, block, r, cut), 0)
-                self.assertEqual(list(cut.octets()), bits)
+                cut = built.made(plan["kdash"], "nr_cut", rate2048, block, r)
+                self.assertEqual(list(cut), bits)
                 wanted = coding.coded(coding.tables(both)[plan["graph"]], plan, bits)
                 for call in [
-                    ("nr_codeword", table, rate2048, a, cut.octets()),
-                    ("nr_encode", table, plan["graph"], plan["z"], cut.octets() + fillers),
+                    ("nr_codeword", table, rate2048, a, cut),
+                    ("nr_encode", table, plan["graph"], plan["z"], cut + fillers),
                 ]:
-                    room = built.Room(plan["n"])
-                    self.assertEqual(built.call(*call, room), 0)
-                    self.assertEqual(list(room.octets()), [2 if it is None else it for it in wanted])
+                    self.assertEqual(list(built.made(plan["n"], *call)), [2 if it is None else it for it in wanted])
             for rv in range(4):
                 for lbrm in [0, a, 3 * a]:
-                    room = built.struct(4)
-                    self.assertEqual(built.call("nr_buffer", built.settings(rate2048, lbrm), a, rv, room), 0)
+                    found = built.written(built.struct(4), "nr_buffer", built.settings(rate2048, lbrm), a, rv).numbers()
                     ncb = rate_matching.buffer_length(plan, lbrm or None)
-                    self.assertEqual(room.numbers(), [ncb, rate_matching.start(plan, ncb, rv), 0, 0])
+                    self.assertEqual(found, [ncb, rate_matching.start(plan, ncb, rv), 0, 0])
 
     def test_encoded(self) -> None:
         """Bits and fillers at any place, by each base graph and lifting size that a code block has."""
@@ -146,9 +135,7 @@ class Answers(unittest.TestCase):
         block = random.Random(9).randbytes(163_827)
         plan = coding.plan(8 * len(block), 512)
         for r, bits in enumerate(coding.code_blocks(block, plan)):
-            room = built.Room(plan["kdash"])
-            self.assertEqual(built.call("nr_cut", 512, block, r, room), 0)
-            self.assertEqual(list(room.octets()), bits)
+            self.assertEqual(list(built.made(plan["kdash"], "nr_cut", 512, block, r)), bits)
 
     def test_lengths(self) -> None:
         draw = random.Random(6)
@@ -160,9 +147,8 @@ class Answers(unittest.TestCase):
                 for blocks in [None, some, [*some, 383]]:
                     tx = built.tx(qm * nl * draw.randrange(1, 4_194_304 // (qm * nl) + 1), draw.randrange(4), qm, nl, blocks)
                     shares = rate_matching.lengths(tx.g, qm, nl, range(plan["c"]) if blocks is None else some)
-                    room = built.Room(plan["c"], item=4)
-                    self.assertEqual(built.call("nr_lengths", rate2048, a, tx, room), 0)
-                    self.assertEqual(room.numbers(), [shares.get(r, 0) for r in range(plan["c"])])
+                    found = built.written(built.Room(plan["c"], item=4), "nr_lengths", rate2048, a, tx).numbers()
+                    self.assertEqual(found, [shares.get(r, 0) for r in range(plan["c"])])
 
     def test_received(self) -> None:
         """Of 8,592 bits in two code blocks 6,000 places leave some open, and all places none; what was heard with both bits
@@ -203,11 +189,10 @@ class Answers(unittest.TestCase):
             with self.subTest(code_blocks=code_blocks):
                 block = bytes((37 * place + 11) % 251 for place in range(octets))
                 given: tuple[typing.Any, ...] = built.table(text), built.settings(rate2048, lbrm)
-                sent = built.Room(tx.g)
-                self.assertEqual(built.call("nr_send", *given, block, tx, sent), 0)
-                self.assertEqual(sent.octets(), coding.sent(text, block, tx, rate2048, lbrm))
+                sent = built.made(tx.g, "nr_send", *given, block, tx)
+                self.assertEqual(sent, coding.sent(text, block, tx, rate2048, lbrm))
                 found, left, room = built.Room(1, item=4), built.Room(code_blocks, item=4), built.Room(octets)
-                given += 8 * octets, [tx], sent.octets()
+                given += 8 * octets, [tx], sent
                 self.assertEqual(built.call("nr_receive", *given, found, left, room), 0)
                 self.assertEqual((found.numbers(), left.numbers()), ([1], [0] * code_blocks))
                 self.assertEqual(room.octets(), block)

@@ -3,7 +3,6 @@
 from __future__ import annotations
 
 import csv
-import importlib.util
 import os
 import pathlib
 import shutil
@@ -36,8 +35,7 @@ class Rates(unittest.TestCase):
     """What a notebook shows in one line, and what a cluster makes."""
 
     def setUp(self) -> None:
-        if importlib.util.find_spec("numpy") is None:
-            self.skipTest("no numpy")
+        built.numpy()
         self.nr = built.module()
         self.table, self.txs = self.nr.Table.practice(), [self.nr.Tx(g=2000, rv=rv, qm=2) for rv in (0, 2)]
 

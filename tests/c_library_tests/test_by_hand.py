@@ -31,9 +31,7 @@ class ByHand(unittest.TestCase):
     def test_crc(self) -> None:
         """The text over which the catalogues give their values."""
         for poly, check in enumerate([0xCDE703, 0x23EF52, 0x31C3]):
-            room = built.struct()
-            self.assertEqual(built.call("nr_crc", poly, b"123456789", room), 0)
-            self.assertEqual(room.numbers(), [check])
+            self.assertEqual(built.written(built.struct(), "nr_crc", poly, b"123456789").numbers(), [check])
 
     def test_lengths(self) -> None:
         """At the rate 0.25, 3832 bits have two code blocks and 7632 bits three. Of two the second has the longer length,
@@ -45,9 +43,7 @@ class ByHand(unittest.TestCase):
             (7632, built.tx(28, qm=4), [8, 8, 12]),
             (7632, built.tx(28, qm=4, blocks=[0, 2]), [12, 0, 16]),
         ]:
-            room = built.Room(len(wanted), item=4)
-            self.assertEqual(built.call("nr_lengths", 512, a, tx, room), 0)
-            self.assertEqual(room.numbers(), wanted)
+            self.assertEqual(built.written(built.Room(len(wanted), item=4), "nr_lengths", 512, a, tx).numbers(), wanted)
 
     def test_refused_lengths(self) -> None:
         """Two code blocks, and then three, of which a fourth one alone is scheduled."""
@@ -68,16 +64,14 @@ class ByHand(unittest.TestCase):
         """24 bits have 40 with their CRC, so that Zc is 7 and N 350. A limit of 200 bits keeps 300 (5.4.2.1)."""
         cases = [(0, 1, [350, 91]), (0, 3, [350, 301]), (200, 2, [300, 147]), (1, 3, [1, 0])]
         for lbrm, rv, wanted in cases:
-            room = built.struct(4)
-            self.assertEqual(built.call("nr_buffer", built.settings(2048, lbrm), 24, rv, room), 0)
-            self.assertEqual(room.numbers(), [*wanted, 0, 0], f"version {rv}, limit {lbrm}")
+            found = built.written(built.struct(4), "nr_buffer", built.settings(2048, lbrm), 24, rv).numbers()
+            self.assertEqual(found, [*wanted, 0, 0], f"version {rv}, limit {lbrm}")
 
     def test_codeword(self) -> None:
         """The 24 bits are octet 01 and its CRC, 1021 in hexadecimal."""
         bits = bytes(place in (7, 11, 18, 23) for place in range(24))
-        room = built.Room(200)
-        self.assertEqual(built.call("nr_codeword", TABLE, 2048, 8, bits, room), 0)
-        self.assertEqual(list(room.octets()), [octet for column in COLUMNS for octet in octets_of(column)])
+        found = list(built.made(200, "nr_codeword", TABLE, 2048, 8, bits))
+        self.assertEqual(found, [octet for column in COLUMNS for octet in octets_of(column)])
 
     def test_received(self) -> None:
         """The codeword of zeros is zeros. At first nothing is sent. The first transmission is erased, by octets of every

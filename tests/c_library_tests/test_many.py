@@ -4,6 +4,7 @@ from __future__ import annotations
 
 import array
 import ctypes
+import mmap
 import pickle
 import random
 import typing
@@ -12,7 +13,6 @@ import unittest.mock
 
 import built
 
-PRACTICE = built.PRACTICE.read_bytes()
 RATE = {"rate2048": 2048}
 COUNT, OCTETS, G = 20, 30, 400
 
@@ -27,12 +27,12 @@ def plain(found: typing.Any) -> tuple[typing.Any, ...]:
     return tuple(it.tolist() for it in found)
 
 
-class Many(unittest.TestCase):
+class Many(built.OfModule):
     """Blocks in an array, and what was heard of them; what is given back is numpy's if it is there."""
 
     def setUp(self) -> None:
-        self.nr = built.module()
-        self.table, self.tx = self.nr.Table(PRACTICE), self.nr.Tx(g=G, qm=2)
+        super().setUp()
+        self.tx = self.nr.Tx(g=G, qm=2)
         draw = random.Random(8)
         self.blocks = [draw.randbytes(OCTETS) for _ in range(COUNT)]
         self.sent = b"".join(self.nr.send(self.table, block, self.tx, **RATE) for block in self.blocks)
@@ -65,11 +65,21 @@ class Many(unittest.TestCase):
             self.assertIs(self.nr.send_many(self.table, self.blocks, self.tx, out=room, **RATE), room)
             self.assertEqual(bytes(room), self.sent)
         for room in [bytearray(COUNT * G - 1), bytearray(G), rows(bytearray(COUNT * G), G), bytearray()]:
-            with self.assertRaises(self.nr.Fault) as raised:
-                self.nr.send_many(self.table, self.blocks, self.tx, out=room, **RATE)
-            self.assertEqual((raised.exception.name, any(bytes(room))), ("Room", False))
+            fault = built.fault_of(self.nr.send_many, self.table, self.blocks, self.tx, out=room, **RATE)
+            self.assertEqual((fault.name, any(bytes(room))), ("Room", False))
         for room in [bytes(COUNT * G), rows(bytes(COUNT * G), COUNT), memoryview(bytearray(2 * COUNT * G))[::2]]:
             self.assertRaises((TypeError, ValueError), self.nr.send_many, self.table, self.blocks, self.tx, out=room, **RATE)
+
+    def test_a_room_that_shrinks(self) -> None:
+        """A room cannot be resized during a call, here by what says the rate."""
+        room = bytearray(COUNT * G)
+
+        class Shrinking:
+            def __float__(self) -> float:
+                room.clear()
+                return 1.0
+
+        self.assertRaises(BufferError, self.nr.send_many, self.table, self.blocks, self.tx, out=room, rate=Shrinking())
 
     def test_a_room_over_the_blocks(self) -> None:
         size = COUNT * OCTETS
@@ -92,9 +102,8 @@ class Many(unittest.TestCase):
         with self.assertWarnsRegex(UserWarning, "bits=") as warned:
             self.nr.send_many(self.table, rows(bytearray([0, 1] * 4), 1), self.tx, **RATE)
         self.assertEqual(warned.filename, __file__)
-        with self.assertRaises(self.nr.Fault) as raised:
-            self.nr.send_many(self.table, tx=self.tx, bits=rows(bytes(7) + b"\2", 1), **RATE)
-        self.assertEqual(raised.exception.name, "Bit")
+        fault = built.fault_of(self.nr.send_many, self.table, tx=self.tx, bits=rows(bytes(7) + b"\2", 1), **RATE)
+        self.assertEqual(fault.name, "Bit")
 
     def test_received(self) -> None:
         wanted = self.each([self.tx], self.heard, G)
@@ -188,22 +197,19 @@ class Many(unittest.TestCase):
         ]
         for call, kind in wrong:
             self.assertRaises(kind, call)
+        wide = memoryview(mmap.mmap(-1, 1 << 31)).cast("B", shape=[1, 1 << 31])
         calls: list[tuple[typing.Callable[[], typing.Any], str]] = [
             (lambda: self.nr.send_many(self.table, self.blocks, self.nr.Tx(5_000_000), **RATE), "Total"),
             (lambda: self.nr.send_many(self.table, [b""], self.tx, **RATE), "Size"),
             (lambda: self.nr.receive_many(self.table, 7, self.tx, [bytes(G)], **RATE), "Size"),
+            (lambda: self.nr.receive_many(self.table, 7, [self.nr.Tx(1 << 22)] * 512, wide, **RATE), "Size"),
             (lambda: self.nr.receive_many(self.table, 8, self.tx, [bytes(G - 1)], **RATE), "Length"),
         ]
         for call, name in calls:
-            with self.assertRaises(self.nr.Fault) as raised:
-                call()
-            self.assertEqual(raised.exception.name, name)
+            self.assertEqual(built.fault_of(call).name, name)
 
     def test_numpy(self) -> None:
-        try:
-            import numpy
-        except ImportError:
-            self.skipTest("no numpy")
+        numpy = built.numpy()
         blocks = numpy.frombuffer(b"".join(self.blocks), numpy.uint8).reshape(COUNT, OCTETS)
         bits = numpy.unpackbits(blocks, axis=1)
         for given in [blocks, blocks.copy(), numpy.repeat(blocks, 2, 0)[::2], numpy.asfortranarray(blocks)]:
@@ -218,8 +224,9 @@ class Many(unittest.TestCase):
         # As everybody writes it: arrays of their shape, whose items are compared one by one.
         heard = self.nr.send_many(self.table, blocks, self.tx, **RATE)
         heard[::2] = self.nr.ERASED
-        found = self.nr.receive_many(self.table, 8 * OCTETS, self.tx, heard, **RATE)
-        self.assertEqual((numpy.mean(found.after == 0), numpy.mean(found.outcomes != self.nr.Outcome.DELIVERED)), (0.5, 0.5))
+        for given in [[[*heard]], heard]:
+            found = self.nr.receive_many(self.table, 8 * OCTETS, self.tx, given, **RATE)
+            self.assertEqual((numpy.mean(found.after == 0), numpy.mean(found.outcomes != self.nr.Outcome.DELIVERED)), (0.5, 0.5))
         self.assertTrue((found.blocks[1::2] == blocks[1::2]).all())
         # As it was written for earlier versions.
         self.assertEqual(numpy.frombuffer(found.outcomes, numpy.uint32).tolist(), [0, 1] * (COUNT // 2))

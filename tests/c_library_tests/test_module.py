@@ -4,7 +4,6 @@ from __future__ import annotations
 
 import array
 import ctypes
-import importlib.util
 import inspect
 import re
 import sys
@@ -21,12 +20,11 @@ PAGES = ["README.md", "docs/c-library.md", "docs/curves.md"]
 SCRIPTS = re.compile(r"```python\n(.*?)```\n+```\n(.*?)```", re.DOTALL)
 
 
-class Module(unittest.TestCase):
+class Module(built.OfModule):
     """The calls over buffers of several kinds."""
 
     def setUp(self) -> None:
-        self.nr = built.module()
-        self.table = self.nr.Table(PRACTICE)
+        super().setUp()
         self.tx = self.nr.Tx(g=104, qm=2)
         self.bits = self.nr.send(self.table, BLOCK, self.tx, **RATE)
 
@@ -76,9 +74,7 @@ class Module(unittest.TestCase):
         self.assertRaises(TypeError, self.nr.send, PRACTICE, BLOCK, self.tx, **RATE)
         self.assertRaises(TypeError, self.nr.Table, "text")
         for text, said in [(b"", "Empty"), (PRACTICE + PRACTICE, "Twice 106"), (PRACTICE[:-1] + b"x\n", "Number 105")]:
-            with self.assertRaises(self.nr.Fault) as raised:
-                self.nr.Table(text)
-            self.assertEqual(str(raised.exception).partition(":")[0], said)
+            self.assertEqual(str(built.fault_of(self.nr.Table, text)).partition(":")[0], said)
 
     def test_room(self) -> None:
         rooms: list[typing.Any] = [
@@ -91,10 +87,7 @@ class Module(unittest.TestCase):
             self.assertRaises((TypeError, ValueError, BufferError), self.nr.send, self.table, BLOCK, self.tx, out=room, **RATE)
 
     def test_numpy(self) -> None:
-        try:
-            import numpy
-        except ImportError:
-            self.skipTest("no numpy")
+        numpy = built.numpy()
         bits = numpy.frombuffer(self.bits, numpy.uint8)
         for kind in [numpy.uint8, numpy.int8, numpy.bool_]:
             self.delivered(bits.astype(kind))
@@ -130,12 +123,10 @@ class Module(unittest.TestCase):
             (lambda: self.nr.buffer(8, 4, **RATE), 50, "Rv"),
         ]
         for call, status, name in calls:
-            with self.assertRaises(self.nr.Fault) as raised:
-                call()
-            self.assertEqual((raised.exception.status, raised.exception.name), (status, name))
-        with self.assertRaises(self.nr.Fault) as raised:
-            self.nr.check_table(PRACTICE + b"3,0,0" + b",0" * 8)
-        self.assertEqual((raised.exception.name, raised.exception.place), ("Range", 106))
+            fault = built.fault_of(call)
+            self.assertEqual((fault.status, fault.name), (status, name))
+        fault = built.fault_of(self.nr.check_table, PRACTICE + b"3,0,0" + b",0" * 8)
+        self.assertEqual((fault.name, fault.place), ("Range", 106))
 
     def test_what_is_no_number_of_32_bits(self) -> None:
         for call in [
@@ -176,6 +167,5 @@ class Documents(unittest.TestCase):
         self.check(False)
 
     def test_pages_over_numpy(self) -> None:
-        if importlib.util.find_spec("numpy") is None:
-            self.skipTest("no numpy")
+        built.numpy()
         self.check(True)

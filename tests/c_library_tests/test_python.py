@@ -5,9 +5,9 @@ from __future__ import annotations
 import array
 import ast
 import copy
+import ctypes
 import fractions
 import functools
-import importlib.util
 import os
 import pickle
 import shutil
@@ -65,19 +65,19 @@ class Typed(unittest.TestCase):
             self.skipTest("no mypy")
         wrong = ["nr.plan('8', rate2048=1)\n", "text: str = nr.send_many(nr.Table(b''), [b'1'], nr.Tx(g=4), rate=1)\n"]
         for program, status in [(TYPED, 0), *((TYPED + it, 1) for it in wrong)]:
-            if "numpy" in program and importlib.util.find_spec("numpy") is None:
-                self.skipTest("no numpy")
+            if "numpy" in program:
+                built.numpy()
             words = [*checker, "--strict", "--cache-dir=/dev/null", "-c", program]
             found, said = built.ran(words, environment={**os.environ, "MYPYPATH": str(built.C)})
             self.assertEqual(found, status, said)
 
 
-class Pickled(unittest.TestCase):
+class Pickled(built.OfModule):
     """Copies, and worker processes."""
 
     def setUp(self) -> None:
-        self.nr = built.module()
-        self.table, self.tx = self.nr.Table(PRACTICE), self.nr.Tx(g=104, qm=2)
+        super().setUp()
+        self.tx = self.nr.Tx(g=104, qm=2)
 
     def test_copies(self) -> None:
         answer = self.nr.receive(self.table, 72, [(self.tx, self.nr.send(self.table, BLOCK, self.tx, **RATE))], **RATE)
@@ -104,9 +104,7 @@ class Pickled(unittest.TestCase):
         """Entries that are no table are refused by the calls."""
         again = copy.copy(self.table)
         again.__setstate__((0, 105, bytes(22 * 105)))
-        with self.assertRaises(self.nr.Fault) as raised:
-            self.nr.send(again, BLOCK, self.tx, **RATE)
-        self.assertEqual(raised.exception.name, "Entries")
+        self.assertEqual(built.fault_of(self.nr.send, again, BLOCK, self.tx, **RATE).name, "Entries")
         for octets in [b"", bytes(22 * 105 - 1), bytes(22 * 106)]:
             self.assertRaises(ValueError, again.__setstate__, (0, 105, octets))
 
@@ -147,12 +145,12 @@ class Faults(unittest.TestCase):
             [sys.executable, "-c", "import nr; nr.plan(9, rate2048=1)"], environment=built.for_python())[1].decode())
 
 
-class Given(unittest.TestCase):
+class Given(built.OfModule):
     """Transmissions, rates and bits as they are given."""
 
     def setUp(self) -> None:
-        self.nr = built.module()
-        self.table, self.tx = self.nr.Table(PRACTICE), self.nr.Tx(g=104, qm=2)
+        super().setUp()
+        self.tx = self.nr.Tx(g=104, qm=2)
         self.sent = self.nr.send(self.table, BLOCK, self.tx, **RATE)
 
     def test_iterators_are_read_once(self) -> None:
@@ -237,15 +235,14 @@ class Given(unittest.TestCase):
 
     def test_bits(self) -> None:
         kinds: list[typing.Callable[[list[int]], typing.Any]] = [
-            list, tuple, bytes, bytearray, *(functools.partial(array.array, code) for code in "bBhHiIqQ")
+            list, tuple, bytes, bytearray, *(functools.partial(array.array, code) for code in "bBhHiIqQ"),
+            lambda it: (ctypes.c_int * len(it))(*it),
         ]
         for kind in kinds:
             self.assertEqual(self.nr.send(self.table, tx=self.tx, bits=kind(BITS), **RATE), self.sent)
         self.assertEqual(self.nr.send(self.table, None, self.tx, bits=memoryview(bytes(BITS)).cast("?"), **RATE), self.sent)
         for bits, name in [(BLOCK, "Bit"), ([2] * 8, "Bit"), (BITS[1:], "Size"), ([], "Size"), (array.array("b", [-1] * 8), "Bit")]:
-            with self.assertRaises(self.nr.Fault) as raised:
-                self.nr.send(self.table, tx=self.tx, bits=bits, **RATE)
-            self.assertEqual(raised.exception.name, name)
+            self.assertEqual(built.fault_of(self.nr.send, self.table, tx=self.tx, bits=bits, **RATE).name, name)
         self.assertRaises(TypeError, self.nr.send, self.table, BLOCK, self.tx, bits=BITS, **RATE)
         self.assertRaises(TypeError, self.nr.send, self.table, tx=self.tx, bits=array.array("d", BITS), **RATE)
         self.assertRaises(TypeError, self.nr.send, self.table, tx=self.tx, bits="text", **RATE)
@@ -270,15 +267,12 @@ class Numpy(unittest.TestCase):
     """The same over numpy's arrays; skipped if it is not there."""
 
     def test_bits(self) -> None:
-        try:
-            import numpy
-        except ImportError:
-            self.skipTest("no numpy")
+        numpy = built.numpy()
         nr = built.module()
         table, tx = nr.Table(PRACTICE), nr.Tx(g=104, qm=2)
         sent = nr.send(table, BLOCK, tx, **RATE)
         bits = numpy.unpackbits(numpy.frombuffer(BLOCK, numpy.uint8))
-        for kind in [bits, bits.astype(bool), bits.astype(int), bits.astype(numpy.int8), numpy.repeat(bits, 2)[::2]]:
+        for kind in [bits, *map(bits.astype, [bool, int, numpy.int8, ">i4"]), numpy.repeat(bits, 2)[::2]]:
             self.assertEqual(nr.send(table, tx=tx, bits=kind, **RATE), sent)
         self.assertEqual(nr.send(table, numpy.packbits(bits), tx, **RATE), sent)
         self.assertWarnsRegex(UserWarning, "packbits", nr.send, table, bits, nr.Tx(400), rate2048=512)

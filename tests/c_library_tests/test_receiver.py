@@ -6,20 +6,14 @@ import copy
 import pickle
 import random
 import typing
-import unittest
 
 import built
 
-PRACTICE = built.PRACTICE.read_bytes()
 RATE = {"rate2048": 2048}
 BLOCK = b"123456789"
 
 
-class Taking(unittest.TestCase):
-    def setUp(self) -> None:
-        self.nr = built.module()
-        self.table = self.nr.Table(PRACTICE)
-
+class Taking(built.OfModule):
     def receiver(self, **more: typing.Any) -> typing.Any:
         """A receiver of a block of nine octets."""
         return self.nr.Receiver(self.table, 72, **RATE, **more)
@@ -78,9 +72,7 @@ class Taking(unittest.TestCase):
         ]
         for call, name in cases:
             with self.subTest(name):
-                with self.assertRaises(self.nr.Fault) as raised:
-                    call()
-                self.assertEqual(raised.exception.name, name)
+                self.assertEqual(built.fault_of(call).name, name)
         with self.assertRaisesRegex(self.nr.Fault, "^Length: what was heard has the length 103, and not 104"):
             receiver.take(tx, whole[1:])
         self.assertEqual(receiver.room, room)

@@ -10,7 +10,7 @@ import unittest
 
 import built
 from model import coding
-from kept import Kept
+from kept import Kept, receiver_size
 from linksim_tools.common import rate_matching
 
 PRACTICE = built.PRACTICE.read_bytes()
@@ -108,9 +108,8 @@ class Case:
             qm = draw.choice([1, 2, 4, 6, 8])
             mask = None if draw.random() < 0.8 else [draw.randrange(blocks)]
             tx = built.tx(qm * max(blocks, (a + 24) * draw.randrange(5, 30) // 10 // qm), draw.randrange(4), qm, 1, mask)
-            room = built.Room(tx.g)
-            assert built.call("nr_send", self.table, self.settings, block, tx, room) == 0
-            heard, erased, turned = bytearray(room.octets()), draw.choice([0, 0.2, 0.5, 0.8]), draw.choice([0, 0, 0, 3])
+            heard = bytearray(built.made(tx.g, "nr_send", self.table, self.settings, block, tx))
+            erased, turned = draw.choice([0, 0.2, 0.5, 0.8]), draw.choice([0, 0, 0, 3])
             for place in range(tx.g):
                 if draw.random() < erased:
                     heard[place] = draw.choice([2, 3, 255])
@@ -140,9 +139,7 @@ class Receivers(unittest.TestCase):
         """One code block with Zc = 4, two of base graph 1 with Zc = 208, and 344 of base graph 2 with Zc = 384."""
         wanted = {(8, 2048): 32 + 209, (8448, 1024): 32 + 2 * (68 * 208 + 1), (1_310_616, 512): 32 + 344 * (52 * 384 + 1)}
         for (a, rate2048), octets in wanted.items():
-            size = built.counter()
-            self.assertEqual(built.call("nr_receiver_size", rate2048, a, size), 0)
-            self.assertEqual(int.from_bytes(size.octets(), "little"), octets)
+            self.assertEqual(receiver_size(rate2048, a), octets)
 
     def test_random(self) -> None:
         """The room after each transmission, and what is written besides, against the model and nr_receive of all so
@@ -191,9 +188,7 @@ class Refusals(unittest.TestCase):
             self.assertTrue(size.is_unwritten())
             self.assertEqual(built.call("nr_receiver_start", TABLE, built.settings(*settings), a, room), status)
         for status, settings, a in [(46, (2048, 0), 3832), (47, (512, 1), 8 * 479)]:
-            size = built.counter()
-            self.assertEqual(built.call("nr_receiver_size", settings[0], a, size), 0)
-            room = built.Room(int.from_bytes(size.octets(), "little"))
+            room = built.Room(receiver_size(settings[0], a))
             self.assertEqual(built.call("nr_receiver_start", TABLE, built.settings(*settings), a, room), status)
             self.assertTrue(room.is_unwritten())
             more = built.Room(room.count + 1)

@@ -3,13 +3,12 @@
 from __future__ import annotations
 
 import array
+import ctypes
 import hashlib
 import typing
-import unittest
 
 import built
 
-PRACTICE = built.PRACTICE.read_bytes()
 RATE = {"rate2048": 2048}
 BLOCK = b"123456789"
 
@@ -19,12 +18,8 @@ def seed_of(*numbers: int) -> int:
     return int.from_bytes(hashlib.sha256(" ".join(map(str, numbers)).encode()).digest()[:8], "big")
 
 
-class Stages(unittest.TestCase):
+class Stages(built.OfModule):
     """What is sent of a code block, by its stages."""
-
-    def setUp(self) -> None:
-        self.nr = built.module()
-        self.table = self.nr.Table(PRACTICE)
 
     def test_as_sent(self) -> None:
         """Selected, interleaved and joined code block by code block, the bits are what send() sends. There is one code
@@ -66,7 +61,7 @@ class Stages(unittest.TestCase):
         self.assertEqual(self.nr.erase(bytearray(b"\1" * 50), seed=2**64 - 1, p=0), b"\1" * 50)
         for seed, p in [(-1, 0.5), (2**64, 0.5), (0, -0.1), (0, 1.1), (0, float("nan"))]:
             self.assertRaises(ValueError, self.nr.erase, heard, seed=seed, p=p)
-        for wrong in (bytes(4), memoryview(bytearray(4)).cast("?")):
+        for wrong in (bytes(4), memoryview(bytearray(4)).cast("?"), (ctypes.c_bool * 4)()):
             self.assertRaises(TypeError, self.nr.erase, wrong, seed=0, p=0.5)
         self.assertRaisesRegex(TypeError, "seed is 1.0", self.nr.erase, heard, seed=1.0, p=0.5)
 
@@ -77,10 +72,7 @@ class Stages(unittest.TestCase):
         self.assertEqual(nr.hard([3, -2, 0.5, -0.5, -float("inf")], 1), bytes([0, 1, 2, 2, 1]))
         for threshold in (-1, nan):
             self.assertRaises(ValueError, nr.hard, [1.0], threshold)
-        try:
-            import numpy
-        except ImportError:
-            self.skipTest("no numpy")
+        numpy = built.numpy()
         values = numpy.array([[3, -2, 0.5], [-0.5, 0, nan]])
         self.assertEqual((nr.hard(values, 0.5).tolist(), nr.hard(values).dtype), ([[0, 1, 2], [2, 2, 2]], numpy.uint8))
         self.assertEqual(nr.hard(numpy.array([-128, 127, 0], numpy.int8), 100).tolist(), [1, 0, 2])
@@ -101,11 +93,7 @@ class Stages(unittest.TestCase):
                 call(array.array("d", [1.0] * 104))
 
 
-class Rounds(unittest.TestCase):
-    def setUp(self) -> None:
-        self.nr = built.module()
-        self.table = self.nr.Table(PRACTICE)
-
+class Rounds(built.OfModule):
     def by_hand(
         self, block: bytes, txs: typing.Any, chances: list[float], turn: int, **more: typing.Any
     ) -> tuple[int, list[list[int]], list[list[int]]]:
@@ -182,10 +170,7 @@ class Rounds(unittest.TestCase):
 
     def test_arrays(self) -> None:
         """numpy's, so that the share of rounds that fail is what everybody writes."""
-        try:
-            import numpy
-        except ImportError:
-            self.skipTest("no numpy")
+        numpy = built.numpy()
         tx = self.nr.Tx(g=200)
         found = self.nr.simulate(self.table, 72, tx, p=numpy.array(0.05), rounds=numpy.int64(50), seed=numpy.uint64(1), **RATE)
         same = self.nr.simulate(self.table, 72, tx, p=0.05, rounds=50, seed=1, **RATE)

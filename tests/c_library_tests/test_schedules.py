@@ -59,16 +59,7 @@ class Case:
             ",".join(map(str, (block + 1, *numbers, field(erased), field(flipped)))) + f",{'all' if mask is None else field(mask)}\n"
             for block, numbers, erased, flipped, mask in self.transmissions
         ]
-        lbrm = f"lbrm = {self.lbrm}\n" if self.lbrm else ""
-        texts = {
-            "table": self.table,
-            "settings": f"rate2048 = {self.rate2048}\n{lbrm}".encode(),
-            "blocks": "".join(it.hex() + "\n" for it in self.blocks).encode(),
-            "schedule": (HEADER + "".join(lines)).encode(),
-        }
-        for name, text in texts.items():
-            (folder / name).write_bytes(text)
-        return [word for name in texts for word in (f"--{name}", folder / name)]
+        return built.link_words(folder, self.table, (self.rate2048, self.lbrm), self.blocks, HEADER + "".join(lines))
 
     def lines(self) -> typing.Any:
         """The lines that the program is to write by the library, or the one with which it refuses."""

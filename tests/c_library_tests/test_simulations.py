@@ -66,16 +66,8 @@ class Case:
 
     def run(self, folder: pathlib.Path) -> tuple[list[list[int]], list[str]]:
         """By the program: rows of what is left after each transmission, and how each round ends."""
-        lbrm = f"lbrm = {self.lbrm}\n" if self.lbrm else ""
-        texts = {
-            "table": PRACTICE + DRAWN,
-            "settings": f"rate2048 = {self.rate2048}\n{lbrm}".encode(),
-            "blocks": self.block.hex().encode() + b"\n",
-            "schedule": self.schedule().encode(),
-        }
-        for name, text in texts.items():
-            (folder / name).write_bytes(text)
-        lines = built.done([built.program(), "run", *[word for name in texts for word in (f"--{name}", folder / name)]]).decode()
+        files = built.link_words(folder, PRACTICE + DRAWN, (self.rate2048, self.lbrm), [self.block], self.schedule())
+        lines = built.done([built.program(), "run", *files]).decode()
         words = [line.split() for line in lines.splitlines()]
         left = [int(it[4]) for it in words if it[0] == "left"]
         return rows_of(left, self.plan["c"]), [it[4] for it in words if it[0] == "process"]

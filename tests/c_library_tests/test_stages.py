@@ -8,6 +8,7 @@ import typing
 import unittest
 
 import built
+from built import made
 from linksim_tools.common import rate_matching
 from linksim_tools.curve.draws import drawn_places
 from model import coding, encoder
@@ -19,14 +20,6 @@ TABLE = built.table(BOTH)
 WORDS = [0xA15C02B7, 0x7B47F409, 0xBA1D3330, 0x83D2F293, 0xBFA4784B, 0xCBED606E]
 
 
-def made(count: int, name: str, *given: typing.Any) -> bytes:
-    """What a call writes to so many octets."""
-    room = built.Room(count)
-    status = built.call(name, *given, room)
-    assert status == 0, f"{name}: status {status}"
-    return room.octets()
-
-
 class Stages(unittest.TestCase):
     """e_r and f_r."""
 
@@ -35,10 +28,8 @@ class Stages(unittest.TestCase):
         their own numbers alone."""
         block, a, settings = random.Random(octets).randbytes(octets), 8 * octets, built.settings(rate2048, lbrm)
         numbers = coding.plan(a, rate2048)
-        room = built.Room(numbers["c"], item=4)
-        self.assertEqual(built.call("nr_lengths", rate2048, a, tx, room), 0)
-        sent = b""
-        for r, length in enumerate(room.numbers()):
+        lengths, sent = built.written(built.Room(numbers["c"], item=4), "nr_lengths", rate2048, a, tx).numbers(), b""
+        for r, length in enumerate(lengths):
             bits = made(numbers["kdash"], "nr_cut", rate2048, block, r)
             d = made(numbers["n"], "nr_codeword", TABLE, rate2048, a, bits)
             e = made(length, "nr_select", settings, a, tx.rv, d)
