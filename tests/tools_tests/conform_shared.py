@@ -8,6 +8,7 @@ import functools
 import json
 import pathlib
 import shutil
+import sys
 import tempfile
 import typing
 
@@ -52,10 +53,8 @@ def table() -> pathlib.Path:
 @functools.cache
 def suite_path() -> pathlib.Path:
     """The path of a suite of the profile `quick`."""
-    status, output, error = shared.tool("conform", "suite", "--table", table())
-    assert (status, error) == (0, ""), error
     path = folder() / "suite.jsonl"
-    path.write_text(output)
+    path.write_text(shared.made("conform", "suite", "--table", table()))
     return path
 
 
@@ -77,14 +76,19 @@ FEW = ("limit-8-511", "kb-192", "kb-560", "kb-640", "limited-2-rv1", "limited-2-
        "shares-zero")
 
 
+def some_of(whole: pathlib.Path, names: typing.Container[str], name: str) -> pathlib.Path:
+    """The path of a suite of some cases of another one, for which the folder gets a file of this name."""
+    head, *cases = whole.read_text().splitlines()
+    kept = [line for line in cases if json.loads(line)["id"] in names]
+    path = folder() / name
+    path.write_text("\n".join([json.dumps({**json.loads(head), "cases": len(kept)}), *kept, ""]))
+    return path
+
+
 @functools.cache
 def few_path() -> pathlib.Path:
     """The path of a suite of a few cases of the same."""
-    head, *cases = suite_path().read_text().splitlines()
-    kept = [line for line in cases if json.loads(line)["id"] in FEW]
-    path = folder() / "few.jsonl"
-    path.write_text("".join(line + "\n" for line in [json.dumps(json.loads(head) | {"cases": len(kept)}), *kept]))
-    return path
+    return some_of(suite_path(), FEW, "few.jsonl")
 
 
 @functools.cache
@@ -117,3 +121,37 @@ def planted(*mistakes: str, fields: tuple[str, ...] = FIELDS) -> dict[str, Answe
 def conform(*words: object, **options: typing.Any) -> tuple[int, str, str]:
     """The status, the standard output and the standard error of the tool."""
     return shared.tool("conform", *words, with_program=False, **options)
+
+
+def refused(*words: object) -> str:
+    """What the tool says, after its name, of words that it refuses."""
+    said = shared.refused("conform", *words, status=2, with_program=False)
+    return said[len("tools/conform: ") :].rstrip("\n")
+
+
+class Commands(shared.InFolder):
+    """A test that runs commands of an encoder over a suite of a few cases."""
+
+    RUN: tuple[str, ...] = ("run",)
+    # A right command in Python, with a place for a line more.
+    GOOD = ""
+
+    def few_path(self) -> pathlib.Path:
+        """The path of the suite."""
+        return few_path()
+
+    def run_(
+        self, *command: object, more: typing.Sequence[object] = (), suite: object = None
+    ) -> tuple[int, list[str], list[str]]:
+        """The status, the lines of the report after its record, and those on standard error."""
+        status, output, error = conform(*self.RUN, suite or self.few_path(), *more, "--", *command)
+        lines = output.splitlines()
+        return status, lines[3:] if output.startswith("judged: ") else lines, error.splitlines()
+
+    def python(self, text: str, **options: typing.Any) -> tuple[int, list[str], list[str]]:
+        """The same of a command in Python."""
+        return self.run_(sys.executable, self.file("command.py", text), **options)
+
+    def good(self, extra: str = "pass", **options: typing.Any) -> tuple[int, list[str], list[str]]:
+        """The same of the right one with this line."""
+        return self.python(self.GOOD % extra, **options)

@@ -110,8 +110,3 @@ def long_lines(text: str, most: int) -> list[str]:
 def words(sentence: str) -> int:
     """How many words a sentence has."""
     return sum(1 for word in sentence.split() if re.search(r"\w", word))
-
-
-def length(text: str) -> int:
-    """How many words a page has outside of blocks of code and of what scripts made."""
-    return sum(words(part) for part in parts(text))

@@ -34,7 +34,7 @@ def told(name: str, said: str | tuple[str, str], *texts: str) -> Planted:
 
 
 TB_CRC = "put_crc(made.b, it->a, plan->b - it->a, it->a > 3824 ? 0x864CFB : 0x1021);"
-CB_CRC = "put_crc(to, part, 24, 0x800063);"
+CODE_CRC = "put_crc(to, part, 24, 0x800063);"
 REST = "    unsigned rest = 0;\n    for (unsigned i = 0; i < count; i++) {"
 PARITY = "bits[count + i] = rest >> (length - 1 - i) & 1;"
 IN_BIT = "unsigned out = rest >> (length - 1) ^ bits[i];"
@@ -44,8 +44,8 @@ CRC = (
             TB_CRC.replace("0x1021", "0x8005")),
     planted("crc24a-typed", "CRC24A: the generator polynomial is 0x864cfe in place of 0x864cfb", TB_CRC,
             TB_CRC.replace("CFB", "CFE")),
-    planted("crc24b-typed", "CRC24B: the generator polynomial is 0x800036 in place of 0x800063", CB_CRC,
-            CB_CRC.replace("63", "36")),
+    planted("crc24b-typed", "CRC24B: the generator polynomial is 0x800036 in place of 0x800063", CODE_CRC,
+            CODE_CRC.replace("63", "36")),
     planted("crc16-1d0f", "CRC16: the register begins with 0x1d0f in place of 0", REST,
             REST.replace("rest = 0", "rest = length == 16 ? 0x1D0F : 0")),
     planted("crc24-openpgp", "CRC24A: the register begins with 0xb704ce in place of 0", REST,
@@ -155,12 +155,12 @@ CODING = (
             "memcpy(d, word + (plan->z < 16 ? 0 : 2 * plan->z), plan->n);"),
 )
 
-Z = "for (it.z = 2; set_of(it.z) == 8 || it.kb * it.z < it.kdash; it.z++)"
+ZC = "for (it.z = 2; set_of(it.z) == 8 || it.kb * it.z < it.kdash; it.z++)"
 ODD = "{1, 3, 5, 7, 9, 11, 13, 15}"
 
 SEGMENTATION = (
     planted("kb-460", "the limit 560 of B is from 424 to 479", "it.b > 560", "it.b > 460"),
-    planted("z-208-missing", ("exactly where Zc = 208", "exactly where Zc = 208"), Z, Z.replace("set_of(it.z) == 8", (
+    planted("z-208-missing", ("exactly where Zc = 208", "exactly where Zc = 208"), ZC, ZC.replace("set_of(it.z) == 8", (
         "set_of(it.z) == 8 || it.z == 208"))),
     planted("sets-13-15", ("the set indexes 6 and 7 are exchanged",
                            "set 6 of base graph 1 is read from another column: set 7's values"),
@@ -174,7 +174,7 @@ SEGMENTATION = (
             "memcpy(to, b + (plan->c - 1 - r) * part, part);"),
 )
 
-K0 = "return starts[plan->graph][rv] * ncb / plan->n * plan->z;"
+START = "return starts[plan->graph][rv] * ncb / plan->n * plan->z;"
 LIMIT = "it->limited ? (unsigned)(3ull * it->lbrm / (2 * plan->c)) : plan->n"
 STARTS = "{0, 17, 33, 56}, {0, 13, 25, 43}"
 
@@ -183,8 +183,8 @@ BUFFER = (
     planted("k0-24", "k0 of rv = 2 by base graph 2 begins by 24 in place of 25", STARTS, STARTS.replace("25", "24")),
     planted("ncb-several", r"exactly where C > 1[^\x00]*ncb-ignored", LIMIT, LIMIT.replace("it->limited", (
         "it->limited && plan->c == 1"))),
-    planted("k0-from-n-rv3", "exactly where rv = 3", K0, K0.replace("ncb", "(rv == 3 ? plan->n : ncb)")),
-    planted("k0-late-rv1", "exactly where rv = 1", K0, K0.replace(";", " + (rv == 1 ? 2 * plan->z : 0);")),
+    planted("k0-from-n-rv3", "exactly where rv = 3", START, START.replace("ncb", "(rv == 3 ? plan->n : ncb)")),
+    planted("k0-late-rv1", "exactly where rv = 1", START, START.replace(";", " + (rv == 1 ? 2 * plan->z : 0);")),
     planted("ncb-rounded-to-z", "Ncb is rounded down to a multiple of Zc", "made.ncb = limit < plan->n ? limit : plan->n;",
             "made.ncb = limit < plan->n ? limit / plan->z * plan->z + (limit < plan->z) * limit : plan->n;"),
     planted("lbrm-in-32-bits", "exactly where TBS_LBRM >= 1,431,655,", LIMIT, LIMIT.replace("3ull", "3u")),
@@ -246,7 +246,7 @@ CONCATENATION = (
             "made.lengths[0] < at - made.lengths[0] ? made.lengths[0] : at - made.lengths[0]);\n" + SENT),
 )
 
-KEPT = "    static unsigned char word[MOST_COLUMNS * MOST_SIZE];\n    memset(word, 0, sizeof word);"
+WORD = "    static unsigned char word[MOST_COLUMNS * MOST_SIZE];\n    memset(word, 0, sizeof word);"
 
 # Bugs of hardware. A rotator turns the wrong way, and another one subtracts Zc once and shifts the rest out. A reader
 # goes one place past the buffer's end. The columns of the fillers have what the code block before left there, and a
@@ -258,7 +258,7 @@ HARDWARE = (
     planted("one-place-past-the-end", "wrapped-late", "select_bits(d, made->k0, made->ncb,",
             "select_bits(d, made->k0, made->ncb + (made->ncb < plan->n),"),
     planted("stale-fillers", "bits that are left in the places of fillers, with parity bits, in one memory",
-            KEPT, KEPT.splitlines()[0],
+            WORD, WORD.splitlines()[0],
             "    memset(word + plan->kdash, filler_in_d(), plan->k - plan->kdash);\n"
             "    memcpy(d, word + 2 * plan->z, plan->n);",
             "    memcpy(d, word + 2 * plan->z, plan->n);\n"

@@ -6,7 +6,6 @@ from __future__ import annotations
 import concurrent.futures
 import dataclasses
 import functools
-import json
 import pathlib
 import re
 import subprocess
@@ -59,11 +58,7 @@ FEW = ("nothing-24", "flip-24", "processes-far-24", "a8-rv1-limit47-even", "mirr
 @functools.lru_cache(None)
 def few_path() -> pathlib.Path:
     """The path of a suite of a few cases of the same."""
-    head, *cases = suite_path().read_text().splitlines()
-    kept = [line for line in cases if json.loads(line)["id"] in FEW]
-    path = conform_shared.folder() / "few-receivers.jsonl"
-    path.write_text("".join(f"{line}\n" for line in [json.dumps({**json.loads(head), "cases": len(kept)}), *kept]))
-    return path
+    return conform_shared.some_of(suite_path(), FEW, "few-receivers.jsonl")
 
 
 @functools.lru_cache(None)

@@ -2,7 +2,6 @@
 
 from __future__ import annotations
 
-import os
 import pathlib
 import random
 import shutil
@@ -19,6 +18,8 @@ ROOT = pathlib.Path(__file__).resolve().parent.parent.parent
 PROGRAM = ROOT / "crates" / "linksim" / "out" / "linksim"
 TOOLS = ROOT / "tools"
 EXAMPLES = ROOT / "examples"
+# The files of the examples, by the options that name them.
+INPUTS = {"table": EXAMPLES / "practice.csv", "settings": EXAMPLES / "settings.toml", "blocks": EXAMPLES / "blocks.txt"}
 
 # A program that hangs ends the test; a busy machine does not.
 SECONDS = 600
@@ -32,10 +33,7 @@ _program = PROGRAM
 def use(path: pathlib.Path) -> None:
     """Names the program that the tests run, or ends if there is none."""
     global _program
-    _program = pathlib.Path(path).resolve()
-    if not os.access(_program, os.X_OK):
-        sys.exit(f"tools: no program at {_program}; tools/first-build builds it")
-    outcome.say_if_old("tools", _program)
+    _program = outcome.program_of("tools", path)
 
 
 def program() -> pathlib.Path:
@@ -57,6 +55,17 @@ def run(
         timeout=SECONDS,
     )
     return ended.returncode, ended.stdout, ended.stderr
+
+
+def options(paths: typing.Mapping[str, object]) -> list[str]:
+    """The options that name these paths."""
+    return [f"--{name}={path}" for name, path in paths.items()]
+
+
+def needs_tomllib() -> None:
+    """Skips the tests of a module whose tool reads its settings with tomllib."""
+    if sys.version_info < (3, 11):
+        raise unittest.SkipTest("Python 3.11 is not there")
 
 
 def linksim(*words: object, stdin: bytes = b"", folder: pathlib.Path | None = None) -> str:

@@ -3,6 +3,7 @@
 from __future__ import annotations
 
 import dataclasses
+import functools
 import json
 import pathlib
 import re
@@ -11,10 +12,10 @@ import typing
 
 import conform_shared
 import shared
-from linksim_tools.common.packing import PACKINGS
-from linksim_tools.conform import bits
+from linksim_tools.conform import bits, files
 from linksim_tools.conform.encoder import answers as answering
 from linksim_tools.conform.encoder import report as reporting
+from linksim_tools.conform.packing import PACKINGS
 from linksim_tools.conform.steps import STEPS
 
 
@@ -71,7 +72,7 @@ class Right(Checked):
 
     def test_some_names_alone(self) -> None:
         numbers = {"id": "kb-192", "k0": 0, "plan": {"z": 32}}
-        status, lines = self.check(answer("kb-560", "sent"), answer("kb-640", "plan"), numbers)
+        status, lines = self.check("\ufeff" + json.dumps(answer("kb-560", "sent")), answer("kb-640", "plan"), numbers)
         count = len(conform_shared.FEW)
         self.assertEqual(status, 0)
         self.assertEqual(self.numbers("concatenation", lines), [1, 0, count - 1])
@@ -87,10 +88,8 @@ class Right(Checked):
     def test_forms(self) -> None:
         name = "mask-hole"
         right = conform_shared.suite().values[name]
-        for form, pack in PACKINGS.items():
-            def packed(text: str) -> dict[str, typing.Any]:
-                return {"count": len(text), form: pack(list(map(int, text)))}
-
+        for form in PACKINGS:
+            packed = functools.partial(files.packed, form)
             value: dict[str, typing.Any] = {
                 "id": name, "attached": packed(right.attached), "sent": packed(right.sent)
             }
@@ -127,6 +126,11 @@ class Right(Checked):
         words = {"id": "shares-zero", "e": ",".join(it or "none" for it in right.e), "sent": right.sent}
         self.assertEqual(self.check(" ".join(f"{name} {value}" for name, value in words.items()), plain=True)[0], 0)
 
+    def test_a_last_line_without_end(self) -> None:
+        path = self.file("answers.txt", "id kb-192 k0 0")
+        notes = [f"{path} line 1 has no end: see whether the file is whole"]
+        self.assertEqual(answering.read(path, conform_shared.few(), True)[1:], ([], notes))
+
     def test_the_rest_is_judged(self) -> None:
         status, lines = self.check("{1}", answer("kb-560", "sent"), '{"id": "kb-640", "sent": 3}')
         self.assertEqual(status, 1)
@@ -139,10 +143,10 @@ class Right(Checked):
         path = self.answers(*({"id": name, "k0": right[name].k0} for name in conform_shared.FEW))
         status, output, _ = conform_shared.conform("check", conform_shared.few_path(), path)
         self.assertEqual((status, output.splitlines()[-1]), (0, "all that was answered agrees"))
-        words = ["check", conform_shared.few_path(), path, "--require", "sent", "--require", "k0"]
-        status, output, _ = conform_shared.conform(*words)
-        self.assertEqual(status, 1)
-        self.assertIn("\nconcatenation is required, and 9 of 9 cases lack it\n", output)
+        for name, wanted in (("k0", 0), ("Ncb", 1), ("sent", 1)):
+            words = ["check", conform_shared.few_path(), path, "--require", "k0", "--require", name]
+            status, output, _ = conform_shared.conform(*words)
+            self.assertEqual((status, f"\n{name} is required, and 9 of 9 cases lack it\n" in output), (wanted, wanted == 1))
 
     def test_own_input(self) -> None:
         shown, right = conform_shared.planted("k0-shifted"), conform_shared.suite().values
@@ -260,9 +264,9 @@ class Unjudged(Checked):
         said = "not JSON: Expecting ',' delimiter: line 1 column 17 (char 16): "
         line = '{"id": "kb-560" "a really long line of words that is cut"}'
         self.refused(f"{said}{line[:40]!r}", line)
-        self.refused("not JSON: Expecting value: line 1 column 1 (char 0): 'id kb-560 k0 0'", "id kb-560 k0 0")
-        self.refused("no id", "{}")
-        self.refused("no id", '{"id": 3}')
+        self.refused("not JSON: plain words want --plain: 'id kb-560 k0 0'", "id kb-560 k0 0")
+        self.refused("no id: '{}'", "{}")
+        self.refused("no id: '{\"id\": 3}'", '{"id": 3}')
         self.refused("the suite has no case kb-9", '{"id": "kb-9"}')
         self.refused("case kb-560 was answered before", '{"id": "kb-560"}', "", '{"id": "kb-560"}')
         self.refused("case kb-560: a name that is none: bit", '{"id": "kb-560", "bit": 1}')
@@ -274,6 +278,15 @@ class Unjudged(Checked):
         status, output, error = conform_shared.conform("check", conform_shared.few_path(), path)
         self.assertEqual((status, error), (1, ""))
         self.assertRegex(output, r"line 1: longer than \d+ octets, and no answer of this suite can be\n$")
+
+    def test_what_cannot_be_shown(self) -> None:
+        """A surrogate alone is escaped, also in the page."""
+        page = self.folder / "report.html"
+        words = ["check", conform_shared.few_path(), self.answers('{"id": "\\ud800"}'), "--html", page]
+        status, output, error = conform_shared.conform(*words)
+        self.assertEqual((status, error), (1, ""))
+        for text in (output, page.read_text()):
+            self.assertIn("line 1: the suite has no case \\ud800\n", text.replace("</", "\n</"))
 
     def test_values(self) -> None:
         for said, value in {
@@ -309,6 +322,7 @@ class Unjudged(Checked):
         said = "case kb-560: sent has other characters than 0, 1 and, for a filler, -"
         self.refused(said, "id kb-560 sent 0a", plain=True)
         self.refused("case kb-560: a name that is none: rv", "id kb-560 rv 0", plain=True)
+        self.refused("no id: '{\"id\": \"kb-560\"}'", '{"id": "kb-560"}', plain=True)
 
     def test_files(self) -> None:
         nowhere = "tools/conform: /nowhere cannot be read: No such file or directory\n"

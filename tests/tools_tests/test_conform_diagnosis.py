@@ -12,10 +12,14 @@ import unittest.mock
 
 import conform_shared
 from linksim_tools.conform.case import Answer
+from linksim_tools.conform.chain import Chain
+from linksim_tools.conform.clauses import Clauses, right
+from linksim_tools.conform.code import TablesKey
 from linksim_tools.conform.encoder import alike, mistakes, search, words
 from linksim_tools.conform.encoder import page as pages
 from linksim_tools.conform.encoder import report as reporting
-from linksim_tools.conform.encoder.diagnosis import diagnosed
+from linksim_tools.conform.encoder.diagnosis import diagnosis
+from linksim_tools.conform.encoder.judging import Trials
 from linksim_tools.conform.steps import FIELDS, STEPS
 
 if typing.TYPE_CHECKING:
@@ -32,7 +36,7 @@ NOTHING_SENT = {"kcb-8448", "count-by-kcb"}
 
 def found_in(answers: dict[str, Answer]) -> list[Found]:
     """The diagnosis of answers to the suite."""
-    return diagnosed(conform_shared.suite(), answers)
+    return diagnosis(conform_shared.suite(), Trials(conform_shared.suite(), answers))
 
 
 def names(found: list[Found]) -> list[tuple[str, list[list[str]]]]:
@@ -180,6 +184,42 @@ class Words(unittest.TestCase):
         said = ("next: run --twice shows whether the state of an earlier case is left; take a suite of --profile full; "
                 "ask the smallest case alone, by a suite of --cases")
         self.assertEqual(lines[-2:], [f"  its vector: tools/conform show {path} kb-560", said])
+
+    def test_entries_by_the_graph_that_was_taken(self) -> None:
+        """Entries are looked for in the base graph that an encoder takes, though it is a wrong one."""
+        class Wrong(Clauses):
+            def base_graph(self, a: int, rate2048: int) -> int:
+                return 2 if a <= 336 else super().base_graph(a, rate2048)
+
+        tables = {graph: [*rows] for graph, rows in conform_shared.suite().tables.tables.items()}
+        for graph, row in ((1, 40), (2, 20)):
+            (column, values), *rest = tables[graph][row]
+            tables[graph][row] = [(column, tuple(it + 1 for it in values)), *rest]
+        answers = {}
+        for name, case in conform_shared.suite().cases.items():
+            if len(case.a) < 1500:
+                made = Chain(TablesKey(tables), case, Wrong())
+                answers[name] = Answer(graph=made.of("graph"), plan=dataclasses.asdict(made.of("plan")), d=made.of("d"))
+        text = "\n".join(self.lines(answers)[0])
+        self.assertIn("table entry graph 1, row 40, column ", text)
+        self.assertIn("table entry graph 2, row 20, column ", text)
+
+    def test_numbers_that_cannot_be(self) -> None:
+        """From numbers that no code block has nothing is made: what fails is told."""
+        right = conform_shared.suite().values["kb-560"]
+        attached, e = right.attached[::-1], [right.e[0][::-1]]
+        for answer in (Answer(attached, plan={"z": 1}), Answer(attached, 3, {"graph": 3}), Answer(attached, plan={"c": 0}),
+                       Answer(Ncb=1_000_000, e=e)):
+            with self.subTest(answer.names()):
+                self.assertTrue(self.lines({"kb-560": answer})[0][0].startswith("diagnosis, step "))
+
+    def test_another_table(self) -> None:
+        """If most codewords are wrong and nothing has a name, the tables may differ."""
+        tables = TablesKey({graph: [*rows[:4], *rows[:3:-1]] for graph, rows in conform_shared.suite().tables.tables.items()})
+        for field in ("d", "sent"):
+            small = [it for it in conform_shared.suite().cases.values() if len(it.a) < 200][:8]
+            answers = {it.id: Answer(**{field: Chain(tables, it, right()).made(field)}) for it in small}
+            self.assertTrue(self.lines(answers)[0][-1].startswith("next: compare the fingerprint of your table with the suite's; "))
 
     def test_nearest(self) -> None:
         answers, shown = conform_shared.planted(), conform_shared.planted("shift-left")

@@ -27,9 +27,7 @@ ALL_STEPS, SENT_ALONE = 80, 65
 @functools.cache
 def questions() -> bytes:
     """The cases of the suite as lines of plain words."""
-    status, output, error = conform_shared.conform("plain", conform_shared.suite_path())
-    assert (status, error) == (0, ""), error
-    return output.encode()
+    return shared.made("conform", "plain", conform_shared.suite_path(), with_program=False).encode()
 
 
 def built(one: planted.Planted) -> pathlib.Path:
@@ -124,6 +122,17 @@ class Planted(unittest.TestCase):
         self.assertEqual((status, error, len(lines)), (1, "", 9))
         for line in lines:
             self.assertRegex(line, r"^case \S+ asked alone twice: two answers: the command is not deterministic$")
+
+    def test_no_answer_alone(self) -> None:
+        """A command that ends if it is asked another case first."""
+        first, second, *_ = conform_shared.few().cases
+        text = ("import sys\nfor at, line in enumerate(sys.stdin):\n    name = line.split()[1]\n"
+                f"    at or name == {first!r} or sys.exit(1)\n    print('id', name, 'k0', 99 * (name == {second!r}), flush=True)\n")
+        path = conform_shared.folder() / "ends.py"
+        path.write_text(text)
+        words = ["run", "--plain", "--twice", conform_shared.few_path(), "--", sys.executable, path]
+        said = f"case {second} asked alone: its answer is missing, after case {first} it is another"
+        self.assertIn(said, conform_shared.conform(*words)[1])
 
     def test_the_same_answers_when_asked_again(self) -> None:
         one = next(it for it in planted.HARDWARE if it.name == "rotator-left")

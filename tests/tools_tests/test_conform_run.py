@@ -22,29 +22,8 @@ PLANTED = {
 }
 
 
-class Run(shared.InFolder):
-    """A test that runs commands."""
-
-    def run_(
-        self,
-        *command: str | pathlib.Path,
-        suite: str | pathlib.Path | None = None,
-        more: typing.Sequence[str | pathlib.Path] = (),
-    ) -> tuple[int, list[str], list[str]]:
-        """The status, the lines of the report and those on standard error."""
-        words = ["run", suite or conform_shared.few_path(), *more, "--", *command]
-        status, output, error = conform_shared.conform(*words)
-        lines = output.splitlines()
-        # What was judged stands before the rest.
-        return status, lines[3:] if output.startswith("judged: ") else lines, error.splitlines()
-
-    def python(self, text: str, **options: typing.Any) -> tuple[int, list[str], list[typing.Any]]:
-        """The same of a command in Python."""
-        return self.run_(sys.executable, self.file("command.py", text), **options)
-
-
 @unittest.skipUnless(shutil.which("cc"), "no C compiler is there")
-class InC(Run):
+class InC(conform_shared.Commands):
     """The examples in C, on the whole suite."""
 
     def built(self, name: str) -> pathlib.Path:
@@ -55,9 +34,7 @@ class InC(Run):
         self.assertEqual((status, output, error), (0, b"", b""))
         return path
 
-    def run_plain(
-        self, *command: pathlib.Path, more: list[pathlib.Path | str] | tuple[typing.Any, ...] = ()
-    ) -> tuple[int, list[str], list[typing.Any]]:
+    def run_plain(self, *command: object, more: typing.Sequence[object] = ()) -> tuple[int, list[str], list[str]]:
         return self.run_(*command, suite=conform_shared.suite_path(), more=["--plain", *more])
 
     def test_template(self) -> None:
@@ -86,8 +63,7 @@ class InC(Run):
                 self.assertIn(f"<code>{mistake}</code>", page.read_text())
 
     def test_plain_lines(self) -> None:
-        status, output, error = conform_shared.conform("plain", conform_shared.few_path())
-        self.assertEqual((status, error), (0, ""))
+        output = shared.made("conform", "plain", conform_shared.few_path(), with_program=False)
         lines = [dict(zip(line.split()[::2], line.split()[1::2])) for line in output.splitlines()]
         cases = conform_shared.few().cases
         self.assertEqual([line["id"] for line in lines], list(cases))
@@ -102,7 +78,7 @@ class InC(Run):
         self.assertEqual((status, error, output.splitlines()[-1]), (0, "", "all that was answered agrees"))
 
 
-class InPython(Run):
+class InPython(conform_shared.Commands):
     """Commands over JSON."""
 
     GOOD = """
@@ -112,9 +88,6 @@ for line in sys.stdin:
     %s
     print(json.dumps({"id": case["id"], "plan": {"a": case["a"]["count"]}}), flush=True)
 """
-
-    def good(self, extra: str = "pass", **options: typing.Any) -> tuple[int, list[str], list[typing.Any]]:
-        return self.python(self.GOOD % extra, **options)
 
     def test_template(self) -> None:
         status, lines, error = self.run_(sys.executable, FOLDER / "template.py", suite=conform_shared.suite_path())
@@ -162,7 +135,7 @@ for line in sys.stdin:
 
     def test_the_command_hangs(self) -> None:
         second = self.names()[1]
-        said = f"at case {second}, number 2 of 9: the command gave no answer for 4.5 s; the other cases are judged"
+        said = f"at case {second}, number 2 of 9: the command gave no answer for 4.5 s; --seconds gives it longer; the other "
         # Time enough for the first case, on a machine that has much else to do.
         hangs = f"__import__('time').sleep(60) if case['id'] == {second!r} else 0"
         self.stopped(said, 8, *self.good(hangs, more=["--seconds", "4.5"]))
@@ -171,6 +144,8 @@ for line in sys.stdin:
         said = f"{place}: the command gave no answer for 3 s; it has written nothing at all"
         self.stopped(said, 0, *self.run_("sleep", "60", more=more))
         self.stopped(said, 0, *self.python("import os\nos.close(0)\nimport time\ntime.sleep(60)", more=more))
+        said = f"{place}: the command gave no answer for 3 s; its last line has no end: '{{'; "
+        self.stopped(said, 0, *self.python("print('{', end='', flush=True)\nimport time\ntime.sleep(60)", more=more))
 
     def test_the_command_closes_its_output(self) -> None:
         said = f"at case {self.names()[0]}, number 1 of 9: the command has closed its standard output; "
@@ -203,7 +178,7 @@ for line in sys.stdin:
         wrong = {
             "not JSON: Expecting property name enclosed in double quotes: line 1 column 2 (char 1): '{ready}'":
                 "print('{ready}', flush=True); continue",
-            "no id": "print('{}', flush=True); continue",
+            "no id: '{}'": "print('{}', flush=True); continue",
             f"case {first} was answered before": f"case['id'] = {first!r}",
             "sent says 9 bits, and its hex has 8":
                 "print(json.dumps({'id': case['id'], 'sent': {'count': 9, 'hex': '00'}}), flush=True); continue",
@@ -226,6 +201,8 @@ for line in sys.stdin:
         status, output, _ = conform_shared.conform("check", conform_shared.few_path(), path)
         said = "1 line that is no answer was left out; the first begins 'reading'"
         self.assertEqual((status, output.splitlines()[-2]), (0, said))
+        said = "the command wrote 300,000 lines that are no answers, the last one 'again'; "
+        self.assertIn(said, self.run_("yes", "again", more=["--skip", "0"])[1][12])
         text = "import sys\nfor line in sys.stdin: print('error: no graph 2', flush=True)"
         status, lines, error = self.python(text, more=["--seconds", "0.5", "--skip", "0"])
         self.assertIn(": the command gave no answer for 3 s; its last line is none: 'error: no graph 2'; what ", lines[12])
@@ -250,11 +227,11 @@ for line in sys.stdin:
         status, lines, error = self.run_("/nowhere/encoder")
         said = "tools/conform: /nowhere/encoder cannot be started: No such file or directory"
         self.assertEqual((status, lines, error), (2, [], [said]))
-        status, _, told = conform_shared.conform("run", conform_shared.few_path())
-        self.assertEqual((status, told), (2, "tools/conform: no command: write it after --\n"))
+        self.assertEqual(conform_shared.refused("run", conform_shared.few_path()), "no command: write it after --")
         status, lines, error = self.run_("true", suite="/nowhere")
         said = "tools/conform: /nowhere cannot be read: No such file or directory"
         self.assertEqual((status, lines, error), (2, [], [said]))
-        status, _, error = self.run_("true", more=["--seconds", "0"])
-        self.assertEqual(status, 2)
-        self.assertIn("--seconds", error[-1])
+        for word in ("0", "nan", "ten"):
+            status, _, error = self.run_("true", more=["--seconds", word])
+            said = f"tools/conform run: error: argument --seconds: {word} is not from 0.001 to 1e+06"
+            self.assertEqual((status, error[-1]), (2, said))

@@ -2,12 +2,13 @@
 
 from __future__ import annotations
 
+import dataclasses
 import json
 import re
 import unittest
 
 import conform_shared
-from model import encoder
+from model import coding, encoder
 import shared
 from linksim_tools.common import program
 from linksim_tools.conform import files
@@ -56,9 +57,7 @@ class Points(unittest.TestCase):
         self.assertEqual({z for graph, z in sizes if graph == 2}, set(SIZES) - missing)
 
     def test_command(self) -> None:
-        status, output, error = conform_shared.conform("points")
-        self.assertEqual((status, error), (0, ""))
-        lines = [line.split() for line in output.splitlines()]
+        lines = [line.split() for line in shared.made("conform", "points", with_program=False).splitlines()]
         self.assertEqual(lines[0][:3], ["point", "quick", "full"])
         self.assertEqual([line[0] for line in lines[1:]], list(points.POINTS))
         self.assertTrue(all(int(line[2]) >= int(line[1]) and int(line[2]) > 0 for line in lines[1:]))
@@ -84,9 +83,8 @@ class Suite(shared.InFolder):
             words = [f"--{key}={value}" for key, value in case["transmission"].items()]
             blocks = self.file("blocks", case["a"]["hex"] + "\n")
             files = ["--table", conform_shared.table(), "--settings", settings, "--blocks", blocks]
-            status, output, error = shared.tool("vectors", *files, *words)
-            self.assertEqual((status, error), (0, ""))
-            vector = {key: it for key, it in json.loads(output).items() if key != "made"}
+            made = json.loads(shared.made("vectors", *files, *words))
+            vector = {key: it for key, it in made.items() if key != "made"}
             self.assertEqual(vector, {key: it for key, it in case.items() if key not in ("id", "covers")})
             status, output, _ = conform_shared.conform("show", conform_shared.suite_path(), name)
             self.assertEqual((status, json.loads(output)), (0, case))
@@ -101,12 +99,7 @@ class Suite(shared.InFolder):
                 b = encoder.attached(list(map(int, case.a)))
                 self.assertEqual(right.attached, "".join(map(str, b)))
                 for bits, d, count, e, f in zip(*(getattr(right, it) for it in ("bits", "d", "E", "e", "f"))):
-                    info = list(map(int, bits)) + [0] * (plan.k - plan.kdash)
-                    columns = plan.k // plan.z
-                    word: list[int | None] = []
-                    word += encoder.codeword(entries[plan.graph], columns, plan.set, plan.z, info)
-                    word[plan.kdash : plan.k] = [None] * (plan.k - plan.kdash)
-                    word = word[2 * plan.z :]
+                    word = coding.coded(entries[plan.graph], dataclasses.asdict(plan), list(map(int, bits)))
                     self.assertEqual(d, "".join("-" if bit is None else str(bit) for bit in word))
                     selected = encoder.selected(word, right.k0, right.Ncb, count)
                     self.assertEqual(e, "".join(map(str, selected)))
@@ -177,6 +170,7 @@ class Own(shared.InFolder):
             "mask is not `all`, and no digits 0 and 1 with a 1: 000": good + " mask 000",
             "no code block is scheduled": good + " mask 01",
             "rv stands there twice": good + " rv 1 rv 1",
+            "a block of 16856 bits cannot be cut; tools/vectors --near names sizes that can": good + "00" * 2106,
         }.items():
             with self.subTest(said):
                 status, _, error = self.own("# mine", line)
@@ -186,25 +180,26 @@ class Own(shared.InFolder):
         self.assertRegex(error, r"line 2: a case before it is one too\n$")
         status, _, error = self.own("id one rate2048 1024 g 601 qm 4 a 01")
         self.assertEqual(status, 2)
-        self.assertEqual(error, "tools/conform: case one: the program refuses its transmission: Ragged\n")
+        said = "the program refuses its transmission: Ragged (docs/formats.md, What send writes)"
+        self.assertEqual(error, f"tools/conform: case one: {said}\n")
 
 
 class Refused(shared.InFolder):
     """What is no suite, and no table."""
 
     def refused(self, said: str, text: str) -> None:
-        words = ["check", self.file("suite.jsonl", text), self.file("answers.jsonl", "")]
-        status, output, error = conform_shared.conform(*words)
-        self.assertEqual((status, output, error.count("\n")), (2, "", 1))
-        self.assertIn(said, error)
+        self.assertIn(said, conform_shared.refused("check", self.file("suite.jsonl", text), self.file("answers.jsonl", "")))
 
     def test_suites(self) -> None:
         head, case = conform_shared.suite_path().read_text().splitlines()[:2]
-        self.refused("is no suite: its first line", "")
+        self.refused("is no suite for encoders: its first line", "")
         self.refused("line 1: not JSON", "suite\n")
-        self.refused("is no suite: its first line", case + "\n")
+        self.refused("is no suite for encoders: its first line", case + "\n")
+        self.refused("is no suite for encoders: its first line", json.dumps(json.loads(head) | {"made": 7}) + "\n")
         self.refused("line 2: no JSON object", head + "\n[]\n")
         self.refused("line 2: no case of a suite: 'transmission'", head + '\n{"id": "x"}\n')
+        endless = json.dumps(json.loads(case) | {"rate2048": float("inf")})
+        self.refused("line 2: no case of a suite: cannot convert float infinity to integer", f"{head}\n{endless}\n")
         changed = json.loads(case) | {"plan": {"a": 8}}
         self.refused("line 2: no case of a suite: 'b'", f"{head}\n{json.dumps(changed)}\n")
         self.refused("no whole suite: it has 1 cases of", head + "\n" + case + "\n")
@@ -212,11 +207,11 @@ class Refused(shared.InFolder):
             self.refused("has no table", json.dumps(json.loads(head) | {"table": table}) + "\n")
 
     def test_tables_and_cases(self) -> None:
-        status, _, error = shared.tool("conform", "suite", "--table", "/nowhere")
-        self.assertEqual((status, error), (2, "tools/conform: /nowhere: linksim: refused: table Read\n"))
-        status, _, error = conform_shared.conform("suite", "--table", "/nowhere", "--program", "/nowhere")
-        self.assertEqual((status, error.count("no program at")), (2, 1))
-        status, _, error = conform_shared.conform("show", conform_shared.suite_path(), "none")
-        self.assertEqual((status, error), (2, f"tools/conform: {conform_shared.suite_path()} has no case none\n"))
-        status, _, error = conform_shared.conform("mistakes", "/nowhere")
-        self.assertEqual((status, error), (2, "tools/conform: /nowhere cannot be read: No such file or directory\n"))
+        suite, refused = conform_shared.suite_path(), conform_shared.refused
+        table = ["suite", "--table", "/nowhere", "--program"]
+        self.assertEqual(refused(*table, shared.program()), "/nowhere: linksim: refused: table Read")
+        self.assertRegex(refused(*table, "/nowhere"), "^no program at /nowhere")
+        self.assertEqual(refused("show", suite, "none"), f"{suite} has no case none")
+        path = self.file("receivers.jsonl", '{"receiver": 1}\n{"id": "none"}\n')
+        self.assertRegex(refused("show", path, "none"), " writes; it is a suite for receivers$")
+        self.assertEqual(refused("mistakes", "/nowhere"), "/nowhere cannot be read: No such file or directory")

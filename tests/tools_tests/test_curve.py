@@ -14,7 +14,8 @@ import typing
 
 import curve_files
 import shared
-from linksim_tools.curve import chunks, draws, units
+from linksim_tools.common.program import Wrong
+from linksim_tools.curve import chunks, draws, tasks, units
 from linksim_tools.curve import setting as settings
 from linksim_tools.curve import source as sources
 
@@ -32,9 +33,11 @@ def size_of_item(item: str) -> int:
 class Conf(shared.InFolder):
     """A test with a curve in its folder."""
 
+    text = CONF
+
     def setUp(self) -> None:
         super().setUp()
-        self.conf = self.file("c.toml", CONF)
+        self.conf = self.file("c.toml", self.text)
         self.setting = settings.read_setting(self.conf)
 
     def curve(self, *words: typing.Any, folder: typing.Any = None) -> str:
@@ -53,6 +56,15 @@ class Conf(shared.InFolder):
 
 
 class Chunks(Conf):
+    def test_points_of_one_threshold_are_one(self) -> None:
+        self.conf.write_text(CONF.replace("0.2,", "0.2, 0.2, 0.20000000001,"))
+        self.assertEqual(settings.read_setting(self.conf).points, (0.2, 0.4))
+
+    @staticmethod
+    def schedule(setting: settings.Setting, p: float, turns: typing.Iterable[int], after: int) -> str:
+        """The schedule of rounds of chunk 0."""
+        return chunks.schedule_of(setting, chunks.sendings_of(setting, p, 0, turns, after))
+
     def test_seed_is_the_hash_of_five_numbers(self) -> None:
         threshold = 2**31
         text = b"7 2147483648 3 39 1"
@@ -62,13 +74,18 @@ class Chunks(Conf):
         self.assertEqual([draws.threshold_of(p) for p in (0, 0.5, 1)], [0, 2**31, 2**32 - 1])
 
     def test_schedule_is_rounds_of_process_0(self) -> None:
-        lines = chunks.schedule_of(self.setting, 0.5, 0, [4], 2).splitlines()
+        lines = self.schedule(self.setting, 0.5, [4], 2).splitlines()
         seeds = [chunks.seed_of(self.setting, 2**31, 0, 4, k) for k in (0, 1)]
         self.assertEqual(lines, [
             "block,rv,g,qm,nl,erase,flip,mask,process,fresh",
             f"1,0,120,2,1,pcg:{seeds[0]}:2147483648,-,all,0,1",
             f"1,2,120,2,1,pcg:{seeds[1]}:2147483648,-,all,0,0",
         ])
+
+    def test_words_that_name_no_chunk(self) -> None:
+        for words in ("", "0.2", "0.2 7-4", "0.2 5-", "0.2:1-2-3"):
+            with self.subTest(words), self.assertRaisesRegex(Wrong, "is no probability with chunks"):
+                tasks.tasks_from(words.split())
 
     def test_long_chunks_take_several_schedules(self) -> None:
         setting = dataclasses.replace(self.setting, rvs=(0, 2, 3, 1))
@@ -78,7 +95,7 @@ class Chunks(Conf):
         flipping = dataclasses.replace(setting, link="flip")
         self.assertEqual(len(chunks.parts_of(flipping, 0.0, range(3000), 4)[0]), 409)
         long = dataclasses.replace(flipping, g=40_000)
-        schedule = chunks.schedule_of(long, 0.5, 0, chunks.parts_of(long, 0.5, range(3000), 1)[0][:4], 1)
+        schedule = self.schedule(long, 0.5, chunks.parts_of(long, 0.5, range(3000), 1)[0][:4], 1)
         self.assertLess(len(chunks.parts_of(long, 0.5, range(3000), 1)[0]) * len(schedule) / 4, 16_777_216)
 
     def test_nothing_erased_delivers_and_all_erased_leaves_all(self) -> None:
@@ -127,7 +144,7 @@ class Chunks(Conf):
         setting = settings.read_setting(self.conf)
         self.assertEqual(sources.keys_of(setting), single[:-1] + ', "unit": 3, "burst": [0.2, 0.3]}')
         line = self.curve("point", self.conf, "0.9", "0").split(",")
-        records = chunks.schedule_of(setting, 0.9, 0, list(range(40)), 1).splitlines()[1:]
+        records = self.schedule(setting, 0.9, range(40), 1).splitlines()[1:]
         lost = [sum(size_of_item(item) for item in record.split(",")[5].split()) for record in records]
         # Of 120 places fewer than K' = 56 arrive, or all do.
         self.assertGreaterEqual(int(line[4]), sum(120 - count < 56 for count in lost))
@@ -164,6 +181,7 @@ class Chunks(Conf):
         heads = "p,chunk,rounds,c,failed_1,failed_2,failed_codeblocks_1,failed_codeblocks_2,left_1,left_2"
         self.assertEqual(merged, heads + ",erased_1,erased_2,source\n" + "".join(one))
         total = self.curve("merge", "--total", first).splitlines()
+        self.assertIn("these are sums of chunks", self.refused("merge", first, self.file("3.csv", "\n".join(total) + "\n")))
         sums = [a + b for a, b in zip(*([int(n) for n in line.split(",")[2:10]] for line in one[:2]))]
         sums[1] = 1
         self.assertTrue(total[1].startswith("0.2,2," + ",".join(map(str, sums)) + ","))
@@ -193,9 +211,9 @@ class Runs(Conf):
         results = self.curve("merge", wanted)
         # The grid, the point between where the curve falls, and second chunks of the points that do not stop.
         self.assertEqual({line.split(",")[0] for line in lines[1:]}, {"0.2", "0.3", "0.4"})
-        # A run that was cut off while it wrote its third line.
-        cut = self.file("cut.csv", "".join(lines[:3]) + lines[3][:9])
-        self.curve("run", self.conf, "--out", cut, "--jobs", "2")
+        # A run that was cut off while it wrote its third line, and has one twice.
+        cut = self.file("cut.csv", "".join(lines[:3]) + lines[1] + lines[3][:9])
+        self.curve("run", self.conf, "--out", cut, "--jobs", "2", "--batch", "0")
         self.assertEqual(self.curve("merge", cut), results)
         self.assertEqual((cut.read_text(), wanted.read_text()), (results, results))
         # Nothing is left to do, and of more processes than a wave has chunks it is said that they idle.
@@ -227,6 +245,15 @@ class Runs(Conf):
         found = {line.split(",")[0] for line in out.read_text().splitlines()[1:]}
         self.assertEqual(found, {"0.2", "0.3", "0.4"})
 
+    def test_an_estimate_of_very_many_chunks(self) -> None:
+        """It makes the first points alone too. Without a log nobody knows how long a chunk takes."""
+        self.conf.write_text(CONF.replace("= 20", "= 1_000_000").replace("chunks = 2", "chunks = 1_000_000"))
+        status, _, said = shared.tool("curve", "run", self.conf, "--estimate")
+        self.assertEqual((status, (self.folder / "c.csv").read_text().count("\n")), (0, 3))
+        self.assertRegex(said, r"more than [:\d]+ hours of a core for \d{5} chunks")
+        (self.folder / "c.csv.log").unlink()
+        self.assertIn("c.csv.log does not say how long a chunk took", self.refused("run", self.conf, "--estimate", "--jobs", "1"))
+
     def test_results_of_another_program(self) -> None:
         """They go on if a share of them, made anew, is the same. A line that was changed is found, and then nothing is written."""
         out, old = self.folder / "c.csv", self.source()
@@ -242,7 +269,7 @@ class Runs(Conf):
             said = shared.tool("curve", *words, *with_newer, with_program=False)[2]
             self.assertIn("tools/curve audit CONF FILE --restamp tries a share", said)
         changed = before.replace(",40,", ",41,", 1)
-        words = ["audit", self.conf, "--share", "100%", "--seed", 3, "--restamp", *with_newer]
+        words = ["audit", self.conf, out, "--share", "100%", "--seed", 3, "--restamp", *with_newer]
         for text, status in ((changed, 1), (before, 0)):
             out.write_text(text)
             found, output, error = shared.tool("curve", *words, with_program=False)
@@ -272,6 +299,14 @@ class Runs(Conf):
 
 
 class Faults(Conf):
+    def test_a_program_that_is_killed(self) -> None:
+        """What it had written ends within a line."""
+        text = f"#!/bin/sh\n[ $1 = run ] || exec {shared.program()} \"$@\"\nprintf 'left 1 1 0 9\\nleft 1 '\nkill -9 $$\n"
+        program = self.file("linksim", text)
+        program.chmod(0o755)
+        said = shared.refused("curve", "point", self.conf, "0.2", "0", "--program", program, with_program=False)
+        self.assertIn("linksim ended with status -9", said)
+
     def test_each_wrong_key_has_one_line(self) -> None:
         cases = [
             ("seed = 7", "", "the key seed is missing"),

@@ -2,6 +2,7 @@
 
 from __future__ import annotations
 
+import dataclasses
 import pathlib
 import shutil
 import unittest
@@ -9,7 +10,8 @@ import unittest
 import curve_files
 import shared
 from curve_files import numpy
-from linksim_tools.curve import harq, making, pool, results, run, theory
+from linksim_tools.common.program import Failed
+from linksim_tools.curve import harq, making, pool, results, run, theory, traced
 from linksim_tools.curve import setting as settings
 from linksim_tools.curve import source as sources
 from test_pool import BITS, WIDE, falling, seen
@@ -79,6 +81,17 @@ class Harq(unittest.TestCase):
         self.assertAlmostEqual(low, 0.1, delta=1e-5)
         self.assertAlmostEqual(high, 0.2, delta=1e-5)
         self.assertEqual(by_target[1e-3, 1], [None, None, None])
+
+
+    def test_code_blocks_that_fail_together(self) -> None:
+        """Over bursts ten code blocks may tell no more than one; and nothing is told beyond the points."""
+        setting = settings.read_setting(shared.EXAMPLES / "curve.toml")
+        line = results.Line(0.1, 0, 100, 10, (20,), (200,), (200,))
+        for burst, are_same in ((None, False), ((0.1, 0.1), True)):
+            curve = dataclasses.replace(setting, link="erase" if burst else "flip", burst=burst)
+            rates = traced.Curve(curve, shared.program(), [], [line]).rates()
+            self.assertEqual(rates.code_blocks_at(0.1, 1) == rates.at(0.1, 1), are_same)
+            self.assertRaisesRegex(Failed, "no rate is known at 0.09: the points are from 0.1", rates.at, 0.09, 1)
 
 
 class Shipped(shared.InFolder):

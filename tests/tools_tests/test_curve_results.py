@@ -10,9 +10,10 @@ import random
 import shutil
 import subprocess
 
-from linksim_tools.curve import grid, outlook, results, run
+from linksim_tools.curve import engines, grid, outlook, results, run
+from linksim_tools.curve import source as sources
 import shared
-from test_curve import Conf
+from test_curve import CONF, Conf
 
 
 class Merging(Conf):
@@ -39,6 +40,8 @@ class Merging(Conf):
         kept, said = self.merged("0.2,0,40,1,3,2,9\n0.2,1,40,1,3")
         self.assertEqual(kept, "0.2,0,40,1,3,2,9\n")
         self.assertIn("has no end", said)
+        with contextlib.redirect_stderr(io.StringIO()):
+            self.assertEqual(results.lines_from(self.file("2.csv", "p,chu")), [])
 
     def test_a_line_that_was_cut_off_loses_itself_alone(self) -> None:
         """Wherever it was cut, and whether the next one stands after it at once or in a line of its own."""
@@ -67,9 +70,16 @@ class Merging(Conf):
         self.assertEqual(self.curve("merge", *old), "p,chunk,rounds,c,failed_1,failed_codeblocks_1,left_1\n"
                          "0.2,0,40,1,3,2,9\n0.2,1,40,1,3,2,9\n")
 
+    def test_what_is_sent_twice_is_kept_once(self) -> None:
+        call, out = engines.Call(self.setting, shared.program(), sources.Source("1a2b", "3c4d", "5e6f")), self.folder / "c.csv"
+        text = f"0.2,0,40,1,3,3,2,2,9,9,,70:3,{self.NEW}\n"
+        with run.kept(call, out) as found:
+            self.assertEqual([found.take(text), found.take(text)], [results.line_from(text), None])
+        self.assertEqual(out.read_text().count(text), 1)
+
     def test_missing(self) -> None:
-        """Chunks that are not there are listed, with status 1."""
-        lines = "".join(f"{p},{chunk},40,1,0,0,0,0,0,0,,,{self.NEW}\n" for p, chunk in ((0.2, 0), (0.2, 3), (0.4, 0)))
+        """Chunks that are not there are listed, with status 1; results of another curve say nothing of it."""
+        lines = "".join(f"{p},{chunk},40,1,0,0,0,0,0,0,,,{self.source()}\n" for p, chunk in ((0.2, 0), (0.2, 3), (0.4, 0)))
         path = self.file("1.csv", lines)
         for words, wanted in (
             ("", "0.2,1\n0.2,2\n"), ("--points 0.4 --chunks 2", "0.4,1\n"), ("--points 0.3 0.4", "0.3,0\n"),
@@ -77,6 +87,8 @@ class Merging(Conf):
         ):
             found = shared.tool("curve", "merge", path, "--missing", self.conf, *words.split(), with_program=False)
             self.assertEqual(found, (1 if wanted else 0, wanted, ""))
+        self.conf.write_text(CONF.replace("seed = 7", "seed = 8"))
+        self.assertIn("the results are of another curve", self.refused("merge", path, "--missing", self.conf))
 
 
 class Wanted(Conf):

@@ -10,7 +10,7 @@ from linksim_tools.common import faults
 import seen_pages
 import shared
 
-TABLE = shared.EXAMPLES / "practice.csv"
+TABLE = shared.INPUTS["table"]
 SETTINGS = "rate2048 = 2048\n"
 HEADER = "block,rv,g,qm,nl,erase"
 
@@ -109,10 +109,8 @@ class Files(shared.InFolder):
 
     def explained(self, command: str, **paths: object) -> str:
         """What is said of a command with these files in the place of others; something is refused."""
-        words = [str(word) for name, path in {**self.paths, **paths}.items() for word in (f"--{name}", path)]
-        if command in ("cut", "check"):
-            words = [str(word) for name, path in paths.items() for word in (f"--{name}", path)]
-        status, output, error = shared.tool("explain", command, *words)
+        words = paths if command in ("cut", "check") else {**self.paths, **paths}
+        status, output, error = shared.tool("explain", command, *shared.options(words))
         self.assertEqual((status, error), (1, ""), output)
         return output
 
@@ -190,16 +188,12 @@ class Files(shared.InFolder):
         self.assertIn("required arguments", output)
 
 
-EXAMPLES = {"table": "practice.csv", "settings": "settings.toml", "blocks": "blocks.txt"}
-
-
 class Outcome(seen_pages.SeenPages):
     """Over the files of the examples."""
 
     def outcome(self, schedule: object, *more: object, status: int = 0, **given: object) -> str:
         """What the tool says of a schedule of the examples' blocks."""
-        paths: dict[str, object] = {name: shared.EXAMPLES / file for name, file in EXAMPLES.items()}
-        words = [str(word) for name, path in {**paths, **given, "schedule": schedule}.items() for word in (f"--{name}", path)]
+        words = shared.options({**shared.INPUTS, **given, "schedule": schedule})
         found, output, error = shared.tool("explain", "outcome", *words, *more)
         self.assertEqual((found, error), (status, ""), output)
         return output
@@ -211,7 +205,7 @@ class Outcome(seen_pages.SeenPages):
         lines = self.outcome(schedule).splitlines()
         self.assertRegex(lines[0], r"^block 1 open tx 1 failed 1 of 1$")
         self.assertRegex(lines[1], r"^  code block 0: (\d+) of its K' = 24 positions are not fixed\. Of all (\d+) ")
-        audited = shared.linksim("audit", *(f"--{name}={shared.EXAMPLES / file}" for name, file in EXAMPLES.items()), f"--schedule={schedule}")
+        audited = shared.linksim("audit", *shared.options({**shared.INPUTS, "schedule": schedule}))
         words = audited.splitlines()[0].split()
         self.assertEqual(re.findall(r"Of all (\d+) ", lines[1]), [words[3]])
         self.assertIn(f"code block 0: {sum(int(it) < 24 for it in words[4:])} of its K'", lines[1])
@@ -221,7 +215,7 @@ class Outcome(seen_pages.SeenPages):
         """Of every schedule of the examples: the lines of blocks, rounds and the total of `run`, in its order."""
         for name in ("schedule.csv", "losses.csv", "processes.csv"):
             with self.subTest(name):
-                words = [f"--{kind}={shared.EXAMPLES / file}" for kind, file in {**EXAMPLES, "schedule": name}.items()]
+                words = shared.options({**shared.INPUTS, "schedule": shared.EXAMPLES / name})
                 wanted = [line for line in shared.linksim("run", *words).splitlines() if re.match("block|process|total", line)]
                 page = self.folder / f"{name}.html"
                 output = self.outcome(shared.EXAMPLES / name, "--html", page)

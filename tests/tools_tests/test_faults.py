@@ -11,7 +11,7 @@ import sys
 import typing
 
 import shared
-from test_curve import CONF
+from test_curve import CONF, Conf
 
 PYTHONS = [f"python3.{minor}" for minor in range(8, 14)]
 
@@ -24,12 +24,8 @@ def interpreters() -> typing.Iterator[tuple[str, str]]:
             yield name, found
 
 
-class Lines(shared.InFolder):
+class Lines(Conf):
     """What ended in a traceback once."""
-
-    def setUp(self) -> None:
-        super().setUp()
-        self.conf = self.file("c.toml", CONF)
 
     def refused(self, *words: object) -> str:
         """The one line with which the tool refuses a word."""
@@ -37,8 +33,11 @@ class Lines(shared.InFolder):
 
     def test_results_in_no_file(self) -> None:
         self.assertIn("No such file", self.refused("run", self.conf, "--out", self.folder / "none" / "x.csv"))
-        for path in ("/dev/full", "/dev/null", self.folder):
+        for path in ("/dev/full", "/dev/null", "-", self.folder):
             self.assertIn("no regular file", self.refused("run", self.conf, "--out", path))
+        picture = self.file("c.png", b"\x89PNG\r\n\x1a\n\xff")
+        self.assertIn("is no text", shared.refused("curve", "run", self.conf, "--out", picture))
+        self.assertEqual(picture.read_bytes()[-1:], b"\xff")
 
     def test_failed_rounds(self) -> None:
         """In no folder; and none."""
@@ -80,12 +79,9 @@ class Lines(shared.InFolder):
             self.assertEqual(shared.run(["bash", "-c", f"{tool} | true"], folder=shared.ROOT)[2], b"", tool)
 
     def test_blocks_of_standard_input(self) -> None:
-        words = ["--table", shared.EXAMPLES / "practice.csv", "--settings", shared.EXAMPLES / "settings.toml"]
-        words += ["--rv", "0", "--g", "24"]
-        blocks = (shared.EXAMPLES / "blocks.txt").read_bytes()
-        wanted = shared.tool("vectors", *words, "--blocks", shared.EXAMPLES / "blocks.txt")
-        self.assertEqual(shared.tool("vectors", *words, "--blocks", "-", stdin=blocks), wanted)
-        self.assertEqual(wanted[0], 0)
+        words, blocks = ["vectors", "--rv=0", "--g=24"], shared.INPUTS["blocks"].read_bytes()
+        wanted = shared.made(*words, *shared.options(shared.INPUTS))
+        self.assertEqual(shared.made(*words, *shared.options({**shared.INPUTS, "blocks": "-"}), stdin=blocks), wanted)
 
 
 class Program(shared.InFolder):

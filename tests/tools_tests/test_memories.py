@@ -11,22 +11,20 @@ import re
 import shutil
 import sys
 import typing
-import unittest
 
 import conform_shared
 import shared
 from linksim_tools.common.graphs import GRAPHS
 from linksim_tools.rtl import draw
 
-TABLE = shared.EXAMPLES / "practice.csv"
+TABLE = shared.INPUTS["table"]
+# The settings and the blocks of the examples.
+LINK = shared.options({name: shared.INPUTS[name] for name in ("settings", "blocks")})
 # The lifting sizes of Table 5.3.2-1 by their set index: a factor, times powers of two.
 FACTORS = (2, 3, 5, 7, 9, 11, 13, 15)
 
 
-def setUpModule() -> None:
-    """The tool reads the settings with tomllib."""
-    if sys.version_info < (3, 11):
-        raise unittest.SkipTest("Python 3.11 is not there")
+setUpModule = shared.needs_tomllib
 
 
 class Folders(shared.InFolder):
@@ -71,8 +69,7 @@ class Folders(shared.InFolder):
 
     def test_memories_of_one(self) -> None:
         """The vector of one transmission as memory files, by hand: 011021 and what is sent of it."""
-        words = [f"--{name}={shared.EXAMPLES / file}" for name, file in (("settings", "settings.toml"), ("blocks", "blocks.txt"))]
-        place = self.vectors("one", *words, "--rv=0", "--g=24", "--form=mem", "--width=8", "--first=msb")
+        place = self.vectors("one", *LINK, "--rv=0", "--g=24", "--form=mem", "--width=8", "--first=msb")
         self.assertEqual((place / "block-1" / "attached.mem").read_text().split(), ["01", "10", "21"])
         self.assertEqual((place / "block-1" / "sent.mem").read_text().split(), ["10", "21", "03"])
         care = (place / "block-1" / "d_0_care.mem").read_text().split()
@@ -80,7 +77,7 @@ class Folders(shared.InFolder):
         case, = self.manifest(place)["cases"]
         self.assertEqual(case["codeblocks"], [{"r": 0, "kdash": 24, "z": 4, "set": 0, "power": 1, "E": 24, "k0": 0, "Ncb": 200}])
         self.assertEqual(case["files"]["d_0"]["bits"], 200)
-        axis = self.vectors("axis", *words, "--rv=0", "--g=21", "--form=axis", "--width=16", "--first=lsb")
+        axis = self.vectors("axis", *LINK, "--rv=0", "--g=21", "--form=axis", "--width=16", "--first=lsb")
         # tlast, tkeep of two octets, tdata: 1021 and 03, of which five bits are sent.
         self.assertEqual((axis / "block-1" / "sent.axis.mem").read_text().split(), ["38408", "50000"])
 
@@ -91,8 +88,7 @@ class Folders(shared.InFolder):
 
     def test_bbdev_of_one(self) -> None:
         """The file of one code block, by hand: 011021, of which 102103 is sent."""
-        words = [f"--{name}={shared.EXAMPLES / file}" for name, file in (("settings", "settings.toml"), ("blocks", "blocks.txt"))]
-        place = self.vectors("bb", *words, "--rv=0", "--g=24", "--form=bbdev")
+        place = self.vectors("bb", *LINK, "--rv=0", "--g=24", "--form=bbdev")
         self.assertEqual(self.keys_of(place / "block-1_0.data"), {
             "op_type": "RTE_BBDEV_OP_LDPC_ENC", "input0": "0x211001", "output0": "0x032110", "basegraph": "2", "z_c": "4",
             "n_cb": "200", "q_m": "1", "n_filler": "16", "e": "24", "rv_index": "0", "code_block_mode": "1",
@@ -173,6 +169,7 @@ class Folders(shared.InFolder):
         self.refused(2, "cannot be written", "--count=1", "--dir", place / "below")
         self.refused(2, "is no empty folder", "--count=1", "--dir", self.file("file", ""))
         self.refused(2, "is no empty folder", "--count=1", "--dir", self.folder)
+        self.refused(1, "the program refuses its transmission: Rv", *LINK, "--rv=4", "--g=24", "--dir", place)
         self.refused(1, "/nowhere: linksim: refused: table Read", "--count=1", "--dir", place, table="/nowhere")
         self.refused(1, "table Fields", "--count=1", "--dir", place, table=self.file("none.csv", "1,2\n3\n"))
         for status, wrong, said in (
@@ -180,7 +177,7 @@ class Folders(shared.InFolder):
             (2, line * 2, "line 2: a case before it is x too"), (2, "", "has no case"),
             (2, line.replace("id x", "id ../x"), "../x: an id that names a file has letters"),
             (1, line.replace("g 24", "g 23").replace("qm 1", "qm 2"), "x: the program refuses"),
-            (1, "id x rate2048 512 lbrm - rv 0 g 24 qm 1 nl 1 mask all a " + "00" * 955, "block 1 Uneven; tools/vectors --near names"),
+            (2, "id x rate2048 512 lbrm - rv 0 g 24 qm 1 nl 1 mask all a " + "00" * 955, "cannot be cut; tools/vectors --near"),
         ):
             self.refused(status, said, "--cases", self.file("cases.txt", wrong), "--dir", place)
         found = shared.tool("vectors", "--table", TABLE, "--count=1")
@@ -221,9 +218,7 @@ class Export(shared.InFolder):
             ((conform_shared.suite_path(), "new", "--width=513"), "--width is"),
             ((conform_shared.suite_path(), pathlib.Path(self.folder) / "a" / "b"), "cannot be written"),
         ):
-            status, output, error = conform_shared.conform("export", *words)
-            self.assertEqual((status, output, error.count("\n")), (2, "", 1))
-            self.assertIn(said, error)
+            self.assertIn(said, conform_shared.refused("export", *words))
 
 
 class Rom(shared.InFolder):

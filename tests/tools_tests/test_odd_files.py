@@ -12,10 +12,8 @@ import sys
 import odd_files
 import shared
 
-EXAMPLE = shared.EXAMPLES
 # What the tools load is there before they are called.
 MODULES = ("conform.encoder.commands", "conform.receiver.commands", "curve.pool", "curve.making", "outcome.command", "rtl.vectors")
-FILES = {"table": "practice.csv", "settings": "settings.toml", "blocks": "blocks.txt", "schedule": "schedule.csv"}
 
 # A call of a tool. F is the odd file, S a suite, R one for receivers, N a new folder, {name} a file of the examples, P the program.
 CALLS = """
@@ -67,7 +65,8 @@ class Odd(shared.InFolder):
 
     def test_every_tool_over_every_file(self) -> None:
         paths = odd_files.write(self.folder)
-        places = {f"{{{name}}}": str(EXAMPLE / file) for name, file in FILES.items()}
+        files = {**shared.INPUTS, "schedule": shared.EXAMPLES / "schedule.csv"}
+        places = {f"{{{name}}}": str(path) for name, path in files.items()}
         places["P"] = f"--program={shared.program()}"
         head, *cases = shared.tool("conform", "suite", "--table", places["{table}"])[1].splitlines()[:3]
         for name, kind, count in (("S", "conform", 2), ("R", "receiver", 0)):
@@ -88,14 +87,14 @@ class Odd(shared.InFolder):
 
     def test_words(self) -> None:
         """Numbers without end, and digits of other scripts: refused at once."""
-        blocks, table = str(EXAMPLE / "blocks.txt"), str(EXAMPLE / "practice.csv")
+        blocks, table = str(shared.INPUTS["blocks"]), str(shared.INPUTS["table"])
         for rate in ("1e999999999", "1e-999999999", "9" * 5000, "1/" + "9" * 5000, "\u0661"):
             self.assertEqual(self.called(["explain", "cut", "--rate", rate, "--blocks", blocks])[0], 2)
         self.assertEqual(self.called(["table", "rom", "--z", "\u0668", table])[0], 2)
 
     def test_closed_streams(self) -> None:
         """A closed standard output is said in one line, and only if something is written to it."""
-        table = EXAMPLE / "practice.csv"
+        table = shared.INPUTS["table"]
         out = "standard output: it is closed\n"
         calls: list[tuple[list[object], str, str, int]] = [
             (["explain", "Core"], ">&-", f"tools/explain: {out}", 2), (["table", "fingerprint", table], ">&-", f"tools/table: {out}", 2),

@@ -16,6 +16,7 @@ import shared
 from curve_files import numpy
 from linksim_tools.curve import chunks, draws, intervals, making, pool, results
 from linksim_tools.curve import setting as settings
+from test_curve import Conf
 
 # K' = 24 of 28 places: with more than four of them erased nothing is delivered, so 24,158 sets of places say all.
 PLACES, KDASH = 28, 24
@@ -45,13 +46,10 @@ class Intervals(unittest.TestCase):
             self.assertAlmostEqual(500 * found[1], high, delta=1e-3)
 
 
-class Small(shared.InFolder):
+class Small(Conf):
     """A code block of 28 places."""
 
-    def setUp(self) -> None:
-        super().setUp()
-        self.conf = self.file("c.toml", SMALL)
-        self.setting = settings.read_setting(self.conf)
+    text = SMALL
 
     def open_sets(self) -> dict[int, set[tuple[int, ...]]]:
         """By K the sets of K erased places with which the block is open, by the program, one transmission a set."""

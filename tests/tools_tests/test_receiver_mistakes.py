@@ -14,6 +14,7 @@ from linksim_tools.conform.receiver import judged, keeping, ladder, report, step
 from linksim_tools.conform.receiver.level import Level
 from linksim_tools.conform.receiver.mistakes import MISTAKES, OWN, SHARED
 from linksim_tools.conform.receiver.mistakes.listed import STEPS
+from linksim_tools.conform.receiver.told import Answer
 
 # These give the same blocks in every case.
 ALIKE = [{"kb-10", "lifting-by-k"}]
@@ -113,6 +114,7 @@ class HeldOut(unittest.TestCase):
                 if made.diagnosis and made.diagnosis.kind in ("gives", "one", "pairs"):
                     self.assertIn(it.said, text)
         self.assertGreaterEqual(len(held_out.HELD_OUT), 40)
+        self.assertLessEqual({"rv-of-1-bit", "handed-up-once"}, set(named))
         self.assertGreaterEqual(len(named), 0.7 * len(held_out.HELD_OUT), sorted(held_out.HELD_OUT.keys() - set(named)))
 
     def test_search_is_cut_short(self) -> None:
@@ -135,7 +137,7 @@ class HeldOut(unittest.TestCase):
                 kind, suite = held_out.planted(name), receiver_shared.suite()
                 failing = {it: ladder.failing(suite, receiver_shared.answers_of_kind(kind, level=it))
                            for it in map(Level, (4, 8, 16, 31))}
-                text = "\n".join(ladder.lines(suite, failing))
+                text = "\n".join(ladder.lines(suite, failing, suite.cases))
                 self.assertRegex(text, said)
                 self.assertRegex(text, r"^levels 4, 8, 16 and 31: \d+, \d+, \d+ and \d+ cases fail\n")
 
@@ -145,6 +147,19 @@ class HeldOut(unittest.TestCase):
             with self.subTest(kind.__name__):
                 made = receiver_shared.reported(receiver_shared.answers_of_kind(kind, every_level=True))
                 self.assertEqual((made.failing, made.doubts), ([], []))
+
+    def test_a_single_code_block(self) -> None:
+        """If it fails, `0` may mean the CRC of the block, which is right: what differs is told of the transmission after it."""
+        made = receiver_shared.reported({"weak-before-24": [Answer(None, "0")] * 2})
+        self.assertEqual((made.failing, made.first and made.first.transmission), (["weak-before-24"], 1))
+
+    def test_the_longest_cases_alone(self) -> None:
+        """If only cases fail of which the answers of mistakes are not known, no block is said to be right."""
+        few = receiver_shared.few()
+        long = {name: dataclasses.replace(kept, known=False) for name, kept in few.cases.items()}
+        made = report.report(dataclasses.replace(few, cases=long), {"fresh-24": [Answer(None), None]})
+        assert made.diagnosis
+        self.assertIn("only the longest cases fail", next(report.head_lines(made.diagnosis)))
 
 
 @unittest.skipUnless(shutil.which("cc"), "no C compiler is there")

@@ -18,7 +18,7 @@ class Page(seen_pages.SeenPages):
     def marks(self, answers: Answers, troubles: typing.Sequence[str] = ()) -> str:
         """The marks of the steps on the page of these answers."""
         suite = receiver_shared.few()
-        record = recording.record_of(["./receiver", "t" * 200], suite.path, suite.profile, suite.seed, suite.made)
+        record = recording.record_of(["./receiver", "t" * 200], suite)
         found, pictures = self.seen(page.lines(report.report(suite, answers, troubles, (), record)))
         self.assertEqual((len(found), pictures), (len(STEPS), 0))
         return found

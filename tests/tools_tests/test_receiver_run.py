@@ -7,29 +7,18 @@ import json
 import pathlib
 import shutil
 import sys
-import typing
 import unittest
 
+import conform_shared
 import receiver_shared
 import shared
 from linksim_tools.conform.receiver.level import Level
 
 
-class Run(shared.InFolder):
+class Run(conform_shared.Commands):
     """A test that runs commands over a suite of a few cases."""
 
-    def run_(
-        self, *command: object, more: typing.Sequence[object] = (), suite: object = None
-    ) -> tuple[int, list[str], list[str]]:
-        """The status, the lines of the report after its record, and those on standard error."""
-        words = ["run", suite or receiver_shared.few_path(), *more, "--", *command]
-        status, output, error = receiver_shared.receiver(*words)
-        return status, output.splitlines()[3:], error.splitlines()
-
-    def python(self, text: str, **options: typing.Any) -> tuple[int, list[str], list[str]]:
-        """The same of a command in Python."""
-        return self.run_(sys.executable, self.file("command.py", text), **options)
-
+    RUN = ("receiver", "run")
     GOOD = """
 import json, sys
 for line in sys.stdin:
@@ -40,8 +29,8 @@ for line in sys.stdin:
     print(json.dumps({"id": it["id"], "tx": it["tx"], "delivered": None}), flush=True)
 """
 
-    def good(self, extra: str = "pass", **options: typing.Any) -> tuple[int, list[str], list[str]]:
-        return self.python(self.GOOD % extra, **options)
+    def few_path(self) -> pathlib.Path:
+        return receiver_shared.few_path()
 
 
 class Asked(Run):
@@ -85,13 +74,16 @@ class Asked(Run):
         self.assertEqual((level.numbers()["+"], level.numbers()["Q"], level.numbers()["l"]), (-20, 5, -128))
 
     def test_plain_lines(self) -> None:
-        status, output, error = receiver_shared.receiver("plain", receiver_shared.few_path())
-        lines = output.splitlines()
-        self.assertEqual((status, error, lines.count("reset")), (0, "", len(receiver_shared.FEW)))
+        lines = shared.made("conform", "receiver", "plain", receiver_shared.few_path(), with_program=False).splitlines()
+        self.assertEqual(lines.count("reset"), len(receiver_shared.FEW))
         line = next(line for line in lines if line.startswith("id processes-far-24 tx 0 "))
         head = "id processes-far-24 tx 0 process 3 fresh 1 a 24 rate2048 2048 lbrm - rv 0 g 315 qm 1 nl 1 mask all llr "
         self.assertTrue(line.startswith(head), line)
         self.assertEqual(len(line[len(head) :].split(",")), 315)
+
+    def test_all_that_was_asked_may_be_sent_back(self) -> None:
+        status, lines, _ = self.python(self.GOOD.replace('"id": it["id"], "tx": it["tx"]', "**it") % "pass")
+        self.assertEqual((status, lines[0]), (1, "suite quick: 6 cases, 6 answered"))
 
     def test_restart(self) -> None:
         """A command for each case, and no line `reset`."""
@@ -106,13 +98,17 @@ class Asked(Run):
         self.assertEqual((status, lines[0]), (1, "suite quick: 6 cases, 6 answered"))
         self.assertRegex("\n".join(lines), r"(?m)^levels 4 and 8: (\d) and \1 cases fail$")
 
+    def test_a_level_that_is_not_answered(self) -> None:
+        """What fails at another level alone is no mistake of levels."""
+        _, lines, _ = self.good("sys.exit(3) if 16 in it['llr'] else 0", more=["--levels", "4,16", "--skip", "0"])
+        self.assertEqual(lines[-1], "levels 4 and 16: 0 and 0 cases fail, of 0 that are answered at each")
+
     def test_show(self) -> None:
-        status, output, error = receiver_shared.receiver("show", receiver_shared.few_path(), "nothing-24")
-        self.assertEqual((status, error), (0, ""))
+        output = shared.made("conform", "receiver", "show", receiver_shared.few_path(), "nothing-24", with_program=False)
         said = r"\n# right: delivered - passed 0; the program proves: open: position 0 of code block 0 stands in a stopping set"
         self.assertRegex(output, said)
-        status, _, error = receiver_shared.receiver("show", receiver_shared.few_path(), "none")
-        self.assertEqual((status, error), (2, f"tools/conform: {receiver_shared.few_path()} has no case none\n"))
+        said = conform_shared.refused("receiver", "show", receiver_shared.few_path(), "none")
+        self.assertEqual(said, f"{receiver_shared.few_path()} has no case none")
 
     def test_lists(self) -> None:
         status, output, _ = receiver_shared.receiver("mistakes", receiver_shared.suite_path())
@@ -178,15 +174,16 @@ class Stopped(Run):
         status, lines, error = self.run_("/nowhere/receiver")
         self.assertEqual((status, lines), (2, []))
         self.assertEqual(error, ["tools/conform: /nowhere/receiver cannot be started: No such file or directory"])
-        status, _, told = receiver_shared.receiver("run", receiver_shared.few_path())
-        self.assertEqual((status, told), (2, "tools/conform: no command: write it after --\n"))
+        said = conform_shared.refused("receiver", "run", receiver_shared.few_path())
+        self.assertEqual(said, "no command: write it after --")
 
     def test_answers_that_cannot_be_judged(self) -> None:
         first, second, third = self.names()[:3]
         wrong = {
-            "not JSON: Expecting ',' delimiter: line 1 column 8 (char 7)": "print('{\"a\": 1', flush=True); continue",
+            "not JSON: Expecting ',' delimiter: line 1 column 8 (char 7): '{\"a\": 1'":
+                "print('{\"a\": 1', flush=True); continue",
             f"an answer to transmission 0 of case {third}, where 0 of {second} was asked": f"it['id'] = {third!r}",
-            "no id": "print('{}', flush=True); continue",
+            "no id: '{}'": "print('{}', flush=True); continue",
             "the suite has no case x": "it['id'] = 'x'",
             f"case {second} has no transmission 9: it has 1, from 0 on": "it['tx'] = 9",
             "delivered is not answered":
@@ -250,6 +247,9 @@ class Checked(Run):
         """What is not answered is not judged, and if nothing is, the status is 1."""
         status, output, error = self.check('{"id": "nothing-24", "tx": 0, "delivered": null}')
         self.assertEqual((status, error, output[-1]), (0, "", "all that was answered agrees"))
+        for said in ('""', 'null, "passed": "0"', 'null, "passed": "1"'):
+            status, output, error = self.check(f'{{"id": "flip-24", "tx": 0, "delivered": {said}}}')
+            self.assertEqual((status, error, output[-1]), (0, "", "all that was answered agrees"))
         status, output, error = self.check("")
         self.assertEqual((status, error, output[-1]), (1, "", "nothing was answered"))
 
@@ -269,14 +269,13 @@ class Checked(Run):
              "it is a suite for encoders"),
             ("x", "line 1: not JSON: Expecting value: line 1 column 1 (char 0)"),
         ):
-            path: pathlib.Path = self.file("suite.jsonl", text)
-            status, output, error = receiver_shared.receiver("mistakes", path)
-            self.assertEqual((status, output, error), (2, "", f"tools/conform: {path} {said}\n"))
+            path = self.file("suite.jsonl", text)
+            self.assertEqual(conform_shared.refused("receiver", "mistakes", path), f"{path} {said}")
         head, *cases = receiver_shared.few_path().read_text().splitlines()
         path = self.file("short.jsonl", "\n".join([head, *cases[1:]]))
-        status, _, error = receiver_shared.receiver("points", path)
-        self.assertEqual((status, error), (2, f"tools/conform: {path} is no whole suite: it has 5 cases of 6\n"))
+        said = conform_shared.refused("receiver", "points", path)
+        self.assertEqual(said, f"{path} is no whole suite: it has 5 cases of 6")
 
     def test_levels(self) -> None:
-        status, _, error = receiver_shared.receiver("plain", receiver_shared.few_path(), "--level", "200")
-        self.assertEqual((status, error), (2, "tools/conform: --level 200 is no value of --bits 8: the largest is 127\n"))
+        said = conform_shared.refused("receiver", "plain", receiver_shared.few_path(), "--level", "200")
+        self.assertEqual(said, "--level 200 is no value of --bits 8: the largest is 127")

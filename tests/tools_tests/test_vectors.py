@@ -5,24 +5,21 @@ from __future__ import annotations
 
 import json
 import pathlib
-import sys
 import typing
 import unittest
 
-from model import encoder
+from model import coding, encoder
 import shared
-from linksim_tools.common import near, packing, vector
+from linksim_tools.common import near, program
 from linksim_tools.common.graphs import GRAPHS
+from linksim_tools.conform import bits, files
 
 # k0 of Table 5.4.2.1-2, by base graph and redundancy version: of each 66 or 50 columns so many.
 STARTS = {1: [0, 17, 33, 56], 2: [0, 13, 25, 43]}
 Vector = typing.Dict[str, typing.Any]
 
 
-def setUpModule() -> None:
-    """The tool reads the settings with tomllib."""
-    if sys.version_info < (3, 11):
-        raise unittest.SkipTest("Python 3.11 is not there")
+setUpModule = shared.needs_tomllib
 
 
 def bits_of(packed: Vector) -> list[int]:
@@ -42,8 +39,7 @@ class Rebuilt(shared.InFolder):
             "settings": self.file("settings.toml", settings),
             "blocks": self.file("blocks.txt", "ff\r\n" + octets.hex() + "\n"),
         }
-        words = [f"--{name}={value}" for name, value in (files | transmission).items()]
-        made: Vector = json.loads(shared.made("vectors", *words, "--block", "2", "--pack", "bits"))
+        made: Vector = json.loads(shared.made("vectors", *shared.options(files | transmission), "--block", "2", "--pack", "bits"))
         return made
 
     def check(
@@ -78,13 +74,8 @@ class Rebuilt(shared.InFolder):
 
     def coded(self, entries: dict[int, shared.Entries], plan: dict[str, int], blocks: list[Vector]) -> None:
         """d is the codeword of the code block, from its third column on, with fillers as null (5.3.2)."""
-        size, fillers = plan["z"], [0] * (plan["k"] - plan["kdash"])
         for block in blocks:
-            information, bits = GRAPHS[plan["graph"]].information, bits_of(block["bits"]) + fillers
-            word: list[int | None] = []
-            word += encoder.codeword(entries[plan["graph"]], information, plan["set"], size, bits)
-            word[plan["kdash"] : plan["k"]] = [None] * len(fillers)
-            self.assertEqual(block["d"], word[2 * size :])
+            self.assertEqual(block["d"], coding.coded(entries[plan["graph"]], plan, bits_of(block["bits"])))
 
     def matched(
         self, plan: dict[str, int], blocks: list[Vector], length: int, rv: int, g: int, qm: int = 1, nl: int = 1
@@ -153,15 +144,12 @@ class Refused(shared.InFolder):
 
     def refused(self, said: str, *words: str | pathlib.Path) -> None:
         """These words after the files are refused, and the line has this in it."""
-        files = [f"--{it}={shared.EXAMPLES / name}" for it, name in self.FILES.items()]
-        self.assertIn(said, shared.refused("vectors", *files, *words))
-
-    FILES = {"table": "practice.csv", "settings": "settings.toml", "blocks": "blocks.txt"}
+        self.assertIn(said, shared.refused("vectors", *shared.options(shared.INPUTS), *words))
 
     def test_refusals(self) -> None:
-        self.refused("the program refuses the transmission: Rv", "--rv=4", "--g=8")
-        self.refused("the program refuses the transmission: Ragged", "--rv=0", "--g=9", "--qm=2")
-        self.refused("the program refuses the transmission: NoneScheduled", "--rv=0", "--g=8", "--mask=7")
+        self.refused("the program refuses its transmission: Rv", "--rv=4", "--g=8")
+        self.refused("the program refuses its transmission: Ragged", "--rv=0", "--g=9", "--qm=2")
+        self.refused("the program refuses its transmission: NoneScheduled", "--rv=0", "--g=8", "--mask=7")
         self.refused("has no block 4", "--rv=0", "--g=8", "--block=4")
         self.refused("has no block 0", "--rv=0", "--g=8", "--block=0")
         self.refused("--mask is all", "--rv=0", "--g=8", "--mask=x")
@@ -169,7 +157,7 @@ class Refused(shared.InFolder):
         self.refused("rate2048 is no whole number of 1 to 2048", "--rv=0", "--g=8", "--settings", self.file("empty.toml", ""))
         self.refused("linksim: refused: blocks Digit 1", "--rv=0", "--g=8", "--blocks", self.file("blocks.txt", "0x01\n"))
         more = self.file("more.toml", "rate2048 = 1\nx = 2")
-        self.refused("linksim: refused: settings Unknown", "--rv=0", "--g=8", "--settings", more)
+        self.refused("x is no key of settings", "--rv=0", "--g=8", "--settings", more)
 
     def test_usage(self) -> None:
         status, _, error = shared.tool("vectors", "--rv=0")
@@ -180,7 +168,7 @@ class Refused(shared.InFolder):
 class Packings(unittest.TestCase):
     """Each packing of some bits, by hand."""
 
-    BITS = [int(bit) for bit in "1000" "0001" "0111" "1111" "0000" "0010" "1010" "1010" "1100" "1100" "01"]
+    BITS = "1000" "0001" "0111" "1111" "0000" "0010" "1010" "1010" "1100" "1100" "01"
 
     def test_by_hand(self) -> None:
         wanted = {
@@ -188,19 +176,19 @@ class Packings(unittest.TestCase):
             "octets": [0x81, 0x7F, 0x02, 0xAA, 0xCC, 0x40],
             "lsb": [0x81, 0xFE, 0x40, 0x55, 0x33, 0x02],
             "le32": ["0xaa027f81", "0x40cc"],
-            "bits": self.BITS,
+            "bits": list(map(int, self.BITS)),
         }
         for name, value in wanted.items():
             with self.subTest(name):
-                self.assertEqual(packing.packed(name, self.BITS), {"count": 42, name: value})
-        self.assertEqual(packing.unpacked("817f02aacc4", 42), self.BITS)
+                self.assertEqual(files.packed(name, self.BITS), {"count": 42, name: value})
+        self.assertEqual(bits.of_digits("817f02aacc4", 42), self.BITS)
 
     def test_nothing(self) -> None:
         for name, value in {"hex": "", "octets": [], "lsb": [], "le32": [], "bits": []}.items():
-            self.assertEqual(packing.packed(name, []), {"count": 0, name: value})
+            self.assertEqual(files.packed(name, ""), {"count": 0, name: value})
 
     def test_the_tool_writes_each(self) -> None:
-        files = [f"--{it}={shared.EXAMPLES / name}" for it, name in Refused.FILES.items()]
+        files = shared.options(shared.INPUTS)
         for name, value in {"hex": "102103", "octets": [16, 33, 3], "lsb": [8, 132, 192], "le32": ["0x032110"]}.items():
             with self.subTest(name):
                 output = shared.made("vectors", *files, "--rv=0", "--g=24", f"--pack={name}")
@@ -213,7 +201,7 @@ class Near(unittest.TestCase):
     def sizes(self, wanted: int, rate: int = 2048) -> dict[str, int]:
         """By `exact`, `below` and `above` the size, as `near` names it."""
         lines = near.near(shared.program(), rate, wanted)
-        return {line.split()[0]: vector.plan_of("block 1 " + line.partition(" ")[2])["a"] for line in lines}
+        return {line.split()[0]: program.plan_of("block 1 " + line.partition(" ")[2])["a"] for line in lines}
 
     def test_base_graph_1(self) -> None:
         # Three code blocks: B, a multiple of 8 as A is, must be a multiple of 24, and is A + 24.

@@ -5,43 +5,31 @@ alone."""
 
 from __future__ import annotations
 
-from planted import Planted, planted
+from planted import (
+    CODE_CRC, EXTENSION, LIMIT, Planted, REST, ROUND, SHIFT, START, TB_CRC, TURN, WORD, ZC, planted,
+)
 
 ANSWER = "    struct made made = {.plan = plan_of(it->a, it->rate2048)};"
-TB_CRC = "put_crc(made.b, it->a, plan->b - it->a, it->a > 3824 ? 0x864CFB : 0x1021);"
-REST = "    unsigned rest = 0;\n    for (unsigned i = 0; i < count; i++) {"
-KEEP = "static unsigned last; last = rest;\n    for (unsigned i = 0; i < length; i++)\n        bits[count + i] = rest"
-CODE_CRC = "put_crc(to, part, 24, 0x800063);"
 K0 = "made.k0 = start_of(plan, it->rv, made.ncb);"
 NCB = "made.ncb = limit < plan->n ? limit : plan->n;"
-START = "return starts[plan->graph][rv] * ncb / plan->n * plan->z;"
-LIMIT = "it->limited ? (unsigned)(3ull * it->lbrm / (2 * plan->c)) : plan->n"
 SHARE = "    share_out(it, plan, made.lengths);"
 LEAST = "unsigned least = it->g / unit / count, longer = it->g / unit % count;"
-WORD = "    static unsigned char word[MOST_COLUMNS * MOST_SIZE];\n    memset(word, 0, sizeof word);"
-BITS = "    memcpy(word, bits, plan->kdash);"
 PARITY = "    put_parity(plan, word);\n    memset(word + plan->kdash, filler_in_d(), plan->k - plan->kdash);"
-SUM = "sum[t] ^= word[it->column * plan->z + (t + shift) % plan->z];"
-TURN = "unsigned shift = shift_of(it->values[plan->set], plan->z);"
-EXTENSION = "for (unsigned row = 4; row < graphs[plan->graph].rows; row++)\n        add_row"
 PART = "memcpy(to, b + r * part, part);"
-ROUND = "e[k++] = d[(k0 + j) % ncb];"
 IF_BIT = "if (d[(k0 + j) % ncb] != FILLER)\n            " + ROUND
 SELECT = "    select_bits(d, made->k0, made->ncb, made->lengths[r], made->e + at);"
-PLACE = "f[i + j * qm] = e[i * (count / qm) + j];"
 INPUT = "    memcpy(made.b, it->bits, it->a);"
 WRITE = "    write_bits(made->f, sent);"
-SHIFT = "return value % z;"
 KB = "it.b > 640 ? 10 : it.b > 560 ? 9 : it.b > 192 ? 8 : 6"
 TWO = "int two = a <= 292 || (a <= 3824 && 100 * rate2048 <= 67 * 2048) || 4 * rate2048 <= 2048;"
 COUNT = "it.c = it.b > kcb ? (it.b + kcb - 25) / (kcb - 24) : 1;"
-ZC = "for (it.z = 2; set_of(it.z) == 8 || it.kb * it.z < it.kdash; it.z++)"
-BLOCK = "    unsigned part = plan->kdash - plan->l;\n    " + PART
 
 
-def kept(name: str, both: str | tuple[str, str], old: str, new: str, declared: str = "unsigned") -> Planted:
-    """A number that is kept from one case to the next: `kept` in the new text."""
-    return planted(name, both, old, f"static {declared} kept; " + new)
+def late(name: str, said: str, number: str, text: str, value: str = "started ? kept : now") -> Planted:
+    """A number that is that of the case before, from this text on."""
+    change = f"unsigned now = {number}; {number} = {value}; kept = now, started = 1;"
+    return planted(name, f"{said} is that of the case before", text,
+                   f"{text} {{ static int started; static unsigned kept; {change} }}")
 
 
 def words_turned(at: str, count: str, width: int, change: str) -> str:
@@ -82,33 +70,20 @@ STATE = (
             "    memcpy(d, word + 2 * plan->z, plan->n);",
             "    memcpy(d, word + 2 * plan->z, plan->n);\n    memcpy(before, bits, plan->kdash);"
             "\n    memset(before + plan->kdash, 0, sizeof before - plan->kdash);"),
-    kept("rv-late", "rv is that of the case before", ANSWER, "unsigned now = it->rv; it->rv = started ? kept : "
-            "now; kept = now, started = 1;\n"
-         + ANSWER, "int started; static unsigned"),
-    kept("qm-late", "Qm is that of the case before", ANSWER, "unsigned now = it->qm; it->qm = started ? kept : "
-            "now; kept = now, started = 1;\n"
-         + ANSWER, "int started; static unsigned"),
-    kept("nl-late", "NL is that of the case before", ANSWER, "unsigned now = it->nl; it->nl = started ? kept : "
-            "now; kept = now, started = 1;\n"
-         + ANSWER, "int started; static unsigned"),
-    kept("k0-late", "k0 is that of the case before", K0, K0 + " { unsigned now = made.k0; made.k0 = started ? "
-            "kept : now; kept = now, started = 1; }",
-         "int started; static unsigned"),
-    kept("ncb-late", "Ncb is that of the case before", NCB, NCB + " { unsigned now = made.ncb; made.ncb = "
-            "started && kept < plan->n ? kept : started ? plan->n : now; kept = now, started = 1; }",
-         "int started; static unsigned"),
-    kept("lbrm-late", "TBS_LBRM is that of the case before", ANSWER, ANSWER + " { unsigned now = it->lbrm; int "
-            "now_limited = it->limited;"
-         " if (started) it->lbrm = kept, it->limited = limited; kept = now, limited = now_limited, started = 1; }",
-         "int started, limited; static unsigned"),
+    late("rv-late", "rv", "it->rv", ANSWER),
+    late("qm-late", "Qm", "it->qm", ANSWER),
+    late("nl-late", "NL", "it->nl", ANSWER),
+    late("k0-late", "k0", "made.k0", K0),
+    late("ncb-late", "Ncb", "made.ncb", NCB, "started && kept < plan->n ? kept : started ? plan->n : now"),
+    late("set-late", "set index", "it.set", "    it.k = graphs[it.graph].information * it.z;"),
+    planted("lbrm-late", "TBS_LBRM is that of the case before", ANSWER, ANSWER + " { static int started, limited; "
+            "static unsigned kept; unsigned now = it->lbrm; int now_limited = it->limited; "
+            "if (started) it->lbrm = kept, it->limited = limited; kept = now, limited = now_limited, started = 1; }"),
     planted("crc-register-left", "register begins with the parity bits of the case before", REST,
             REST.replace("unsigned rest = 0;", "static unsigned left; unsigned rest = length == 24 && "
             "polynomial == 0x800063 ? 0 : left & ((1u << length) - 1);"),
             "        bits[count + i] = rest >> (length - 1 - i) & 1;",
             "        bits[count + i] = rest >> (length - 1 - i) & 1;\n    if (polynomial != 0x800063)\n        left = rest;"),
-    kept("set-late", "set index is that of the case before", "    it.k = graphs[it.graph].information * it.z;",
-         "{ unsigned now = it.set; it.set = started ? kept : now; kept = now, started = 1; }\n"
-         "    it.k = graphs[it.graph].information * it.z;", "int started; static unsigned"),
     planted("e-left", "case before", SELECT, SELECT + "\n    static unsigned char left[1 << 22];\n    static unsigned was;\n"
             "    if (made->lengths[r] < was)\n        memcpy(made->e + at + made->lengths[r] / 2, left + "
             "made->lengths[r] / 2, made->lengths[r] - made->lengths[r] / 2);\n"
@@ -123,8 +98,7 @@ ROWS = (
     planted("columns-4-to-7", "columns 4 to 7", *passed_over("it->column >= 4 && it->column < 8")),
     planted("column-3-of-extension", "column 3 of rows from 4 on", *passed_over("it->column == 3 && row >= 4")),
     planted("row-12-another-set", "row 12", TURN, TURN.replace("plan->set]", "row == 12 ? (plan->set + 1) % 8 : plan->set]")),
-    planted("last-bit-of-rows", "last bit", EXTENSION.replace("\n        add_row", ""),
-            EXTENSION.replace("\n        add_row", "") + "\n        if (word[(first + row) * z + z - 1] = 0, 1)",
+    planted("last-bit-of-rows", "last bit", *rows_if("word[(first + row) * z + z - 1] = 0, 1"),
             "add_row(plan, row, first + 4, word, word + (first + row) * z);",
             "add_row(plan, row, first + 4, word, word + (first + row) * z), word[(first + row) * z + z - 1] = 0;"),
     planted("bits-from-256", "t = 256", "add_row(plan, row, first + 4, word, word + (first + row) * z);",
@@ -137,12 +111,8 @@ ROWS = (
 )
 
 WORDS = (
-    planted("input-octets-of-32", "input: the octets of each word of 32 bits", INPUT,
-            INPUT + "\n    " + words_turned("made.b", "it->a", 32, OCTETS)),
-    planted("input-octets-of-64", "input: the octets of each word of 64 bits", INPUT,
-            INPUT + "\n    " + words_turned("made.b", "it->a", 64, OCTETS)),
-    planted("input-octets-of-16", "input: the octets of each word of 16 bits", INPUT,
-            INPUT + "\n    " + words_turned("made.b", "it->a", 16, OCTETS)),
+    *(planted(f"input-octets-of-{width}", f"input: the octets of each word of {width} bits", INPUT,
+              INPUT + "\n    " + words_turned("made.b", "it->a", width, OCTETS)) for width in (16, 32, 64)),
     output("output-octets-of-32", "output: the octets of each word of 32 bits", words_turned("f", "at", 32, OCTETS)),
     output("output-bits-of-32", "output: the bits of each word of 32 bits", words_turned("f", "at", 32, REVERSED)),
     output("output-words-exchanged", "output: the words of 32 bits of each pair are exchanged",
@@ -238,9 +208,8 @@ FORMULAS = (
 )
 
 BOUNDARIES = (
-    planted("kb-640-strict", "B = 640|limit 640", KB, KB.replace("it.b > 640", "it.b >= 640")),
-    planted("kb-560-strict", "B = 560|limit 560", KB, KB.replace("it.b > 560", "it.b >= 560")),
-    planted("kb-192-strict", "B = 192|limit 192", KB, KB.replace("it.b > 192", "it.b >= 192")),
+    *(planted(f"kb-{most}-strict", f"B = {most}|limit {most}", KB, KB.replace(f"it.b > {most}", f"it.b >= {most}"))
+      for most in (640, 560, 192)),
     planted("kb-576", "limit 560", KB, KB.replace("it.b > 560", "it.b > 576")),
     planted("kb-no-192", "limit 192", KB, KB.replace("it.b > 192 ? 8 : 6", "8")),
     planted("graph-292-missing", "limit 292", TWO, TWO.replace("a <= 292", "0")),
