@@ -38,12 +38,13 @@ def end() -> None:
     shutil.rmtree(FOLDER)
 
 
-def without_kit() -> dict[str, str]:
-    """The environment of somebody who has no kit: no folder of PATH has rt or linksim."""
+def without_kit(**more: object) -> dict[str, str]:
+    """The environment of somebody who has no kit: no folder of PATH has rt or linksim. Some names are given."""
     folders = os.environ["PATH"].split(os.pathsep)
     kept = [it for it in folders if not any((pathlib.Path(it) / name).exists() for name in ("rt", "linksim"))]
     environment = {name: value for name, value in os.environ.items() if name not in UNSET}
-    return {**environment, "PATH": os.pathsep.join(kept), "PYTHONDONTWRITEBYTECODE": "1"}
+    given = {name: str(value) for name, value in more.items()}
+    return {**environment, "PATH": os.pathsep.join(kept), "PYTHONDONTWRITEBYTECODE": "1", **given}
 
 
 def ran(

@@ -19,6 +19,7 @@ end
 function answers(table)
 plan = nr_plan(8, 1);
 same([plan.graph plan.c plan.kdash plan.z plan.k plan.n], [2 1 24 4 40 200]);
+same(nr_plan(uint32(8), 1), plan);
 % columns 0 to 51 of the block 01, four bits each; columns 6 to 9 are fillers, and the first two are never sent
 word = bits('0110210000033022000008108800000240220000081088000002');
 coded = word(9:end);
@@ -32,6 +33,7 @@ same(nr_encode(table, [filled filled], 2), [coded coded]);
 same(nr_match([coded coded], 24, 2, 0, 4), [bits('000a51') bits('000a51')]);
 same(nr_match(coded, 184, 2, 3, 1), [coded(173:200); coded([1:16 33:172])]);
 same(nr_match(coded, 30, 2, 0, 1, 40), coded([1:16 33:40 1:6]));
+same(size(nr_match(coded, 2^22, 2, 0, 1)), [2^22 1]);
 block = bits('01');
 same(nr_cut(block, 1), word(1:24));
 same(size(nr_cut(false(3840, 1), 1/4)), [1956 2]);
@@ -141,6 +143,8 @@ words = hex2dec({'a15c02b7'; '7b47f409'; 'ba1d3330'; '83d2f293'});
 same(erased, 2);
 refused('nr:argument', @() nr_simulate(table, 8, 1, txs(1), 1.5, 1));
 refused('nr:argument', @() nr_simulate(table, 8, 1, txs(1), 0.5, -1));
+said = refused('nr:argument', @() nr_simulate(table, 8, 1, txs(1), 0.5, int32(1)));
+same(said, 'argument: seeds are uint64 or doubles, and whole numbers from 0, below 2^64');
 refused('nr:Length', @() nr_simulate(table, 8, 1, txs, 0.5, 1));
 refused('nr:Rv', @() nr_simulate(table, 8, 1, struct('g', 4, 'qm', 1, 'rv', 4), 0.5, 1));
 end
@@ -169,6 +173,12 @@ refused('nr:Length', @() nr_codeword(table, zeros(23, 1), 8, 1));
 refused('nr:Length', @() nr_receive(table, 8, 1, tx, zeros(23, 1)));
 refused('nr:Length', @() nr_receive(table, 8, 1, tx, {}));
 refused('nr:argument', @() nr_send(table, 2 * block, 1, tx));
+refused('nr:argument', @() nr_send(table, block, 1, [tx tx]));
+refused('nr:argument', @() nr_lengths(8, 1, [tx tx]));
+refused('nr:argument', @() nr_take(table, nr_receiver(table, 8, 1), [tx tx], zeros(24, 1)));
+refused('nr:argument', @() nr_send(table, [block block], 1, tx));
+refused('nr:argument', @() nr_cut([block block], 1));
+refused('nr:argument', @() nr_crc([block block], '16'));
 refused('nr:argument', @() nr_send(table, 'text', 1, tx));
 refused('nr:argument', @() nr_send(table, sparse(block), 1, tx));
 refused('nr:argument', @() nr_send(double(table), block, 1, tx));

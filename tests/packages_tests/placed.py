@@ -52,7 +52,7 @@ class Placed(made.InFolder):
     def by_pkg_config(self, **places: typing.Any) -> None:
         """An example in C over the shared library, with the flags that pkg-config says."""
         made.needs("pkg-config")
-        environment = {**made.without_kit(), **{name: str(value) for name, value in places.items()}}
+        environment = made.without_kit(**places)
         version = made.done(["pkg-config", "--modversion", "nr"], environment=environment)
         self.assertEqual(version, made.VERSION + "\n")
         flags = shlex.split(made.done(["pkg-config", "--cflags", "--libs", "nr"], environment=environment))
@@ -73,7 +73,7 @@ class Placed(made.InFolder):
 
     def by_python(self, python: typing.Any, **places: typing.Any) -> None:
         """An example in Python."""
-        environment = {**made.without_kit(), **{name: str(value) for name, value in places.items()}}
+        environment = made.without_kit(**places)
         words = [python, EXAMPLES / "erasures.py"]
         for given in (words, [*words, TABLE]):
             self.delivered(made.done(given, environment=environment, folder=self.folder))
@@ -87,7 +87,7 @@ class Placed(made.InFolder):
         entries = {graph: shared.drawn_entries(graph) for graph in (1, 2)}
         text = "".join(layouts.text(graph, [layouts.side_by_side(layouts.halves(found))]) for graph, found in entries.items())
         (self.folder / "38212.txt").write_text(text)
-        environment = {**made.without_kit(), **{name: str(value) for name, value in places.items()}}
+        environment = made.without_kit(**places)
         said = made.done([python, "-m", "nr.table", "read", "38212.txt"], environment=environment, folder=self.folder)
         wanted = [f"{graph},{row},{col},{','.join(map(str, values))}" for graph in (1, 2)
                   for (row, col), values in sorted(entries[graph].items())]
@@ -97,7 +97,7 @@ class Placed(made.InFolder):
         """The man pages, as man shows them."""
         made.needs("man")
         for path in sorted(folder.glob("linksim*")):
-            shown = made.done(["man", "-P", "cat", "-l", path], environment={**made.without_kit(), "LC_ALL": "C.UTF-8"})
+            shown = made.done(["man", "-P", "cat", "-l", path], environment=made.without_kit(LC_ALL="C.UTF-8"))
             if "minimized" in shown:
                 self.skipTest("man is left out of this system")
             self.assertRegex(shown, r"(?s)LINKSIM.*NAME.*linksim.*SYNOPSIS")

@@ -55,14 +55,12 @@ class Declared(unittest.TestCase):
 
     def test_structs(self) -> None:
         """Each struct has nr.h's members, in their order."""
-        sources = "".join((RUST / "src" / name).read_text() for name in ("raw.rs", "lib.rs", "table.rs"))
+        sources = "".join((RUST / "src" / name).read_text() for name in ("raw.rs", "table.rs"))
         for name, body in re.findall(r"typedef struct Nr(\w+) \{(.*?)\n\}", HEADER, re.S):
-            found = re.search(
-                rf"#\[repr\(C\)\]\n(?:#[^\n]*\n)*pub(?:\(crate\))? struct {name} \{{(.*?)\n\}}", sources, re.S
-            )
+            found = re.search(rf"(?m)^(?:#\[repr\(C\)\]\n.*\npub struct|   ) {name} \{{([^}}]*)\}}", sources)
             with self.subTest(name):
                 assert found, name
-                members = re.findall(r"(?m)^    pub(?:\(crate\))? (\w+):", found[1])
+                members = re.findall(r"(\w+): [u\[]", found[1])
                 self.assertEqual(members, re.findall(r"(?m)^ {4}\w+ (\w+)(?:\[\d\])?;", body))
 
     def test_syntax(self) -> None:
@@ -101,10 +99,7 @@ class Built(Placed):
     def cargo(self, folder: pathlib.Path, *words: str, **places: pathlib.Path) -> str:
         """What cargo says, without the network."""
         made.compiler()
-        environment = {
-            **made.without_kit(), "CARGO_TARGET_DIR": str(self.folder / "target"), "CARGO_NET_OFFLINE": "true"
-        }
-        environment.update({name: str(place) for name, place in places.items()})
+        environment = made.without_kit(CARGO_TARGET_DIR=self.folder / "target", CARGO_NET_OFFLINE="true", **places)
         return made.done([made.needs("cargo"), *words, "--offline", "--quiet"], folder, environment)
 
     def test_cargo(self) -> None:
@@ -113,8 +108,12 @@ class Built(Placed):
         said = self.cargo(crate, "test", NR_DIR=self.folder / "nr")
         self.assertRegex(said, "test result: ok. [1-9]")
         self.assertNotIn("FAILED", said)
-        # Where it was installed, it finds the library beside it.
-        self.cargo(self.share / "rust", "build", PKG_CONFIG=self.folder / "none")
+        # Where it was installed, it finds the library beside it, and takes none of another version.
+        (self.folder / "old").mkdir()
+        (self.folder / "old" / "libnr.a").touch()
+        (self.folder / "old" / "nr.pc").write_text("Name: nr\nDescription: old\nVersion: 0.0.1\nLibs: -L${pcfiledir} -lnr\n")
+        for place in ({"PKG_CONFIG": self.folder / "none"}, {"PKG_CONFIG_PATH": self.folder / "old"}):
+            self.cargo(self.share / "rust", "build", **place)
 
     def test_rust_document(self) -> None:
         """The lines of docs/rust.md, over the library that pkg-config names."""

@@ -60,7 +60,7 @@ class Terminal:
 
     def __init__(self, words: typing.List[str], folder: pathlib.Path) -> None:
         self.said = b""
-        environment = {**made.without_kit(), "TERM": "dumb", "LC_ALL": "C.UTF-8", "HOME": str(folder)}
+        environment = made.without_kit(TERM="dumb", LC_ALL="C.UTF-8", HOME=folder)
         self.pid, self.place = pty.fork()
         if not self.pid:
             try:
@@ -131,7 +131,7 @@ class Completed(made.InFolder):
     def test_tools_in_fish(self) -> None:
         fish = made.needs("fish")
         script = 'source $argv[1]; complete -C"$argv[2]"; true'
-        environment = {**made.without_kit(), "HOME": str(self.folder)}
+        environment = made.without_kit(HOME=self.folder)
         for typed, word in OF_TOOLS.items():
             with self.subTest(typed):
                 completion = self.share / "fish" / "vendor_completions.d" / f"{typed.split()[0]}.fish"
@@ -154,7 +154,7 @@ class Completed(made.InFolder):
         fish = made.needs("fish")
         completion = self.share / "fish" / "vendor_completions.d" / "linksim.fish"
         script = 'source $argv[1]; for line in $argv[2..-1]; echo "<"(complete -C$line | string split -f 1 \\t)">"; end'
-        environment = {**made.without_kit(), "HOME": str(self.folder)}
+        environment = made.without_kit(HOME=self.folder)
         for typed, word in TYPED.items():
             with self.subTest(typed):
                 said = made.done([fish, "--no-config", "-c", script, completion, typed], self.files, environment)

@@ -83,8 +83,25 @@ class Same(made.InFolder):
         (ours / "site" / "index.html").touch()
         clear = "import pathlib, sys; from packages import staging; staging.empty(pathlib.Path(sys.argv[1]), 'site')"
         path = os.pathsep.join(str(made.ROOT / it) for it in ("packaging", "c"))
-        made.done([sys.executable, "-c", clear, ours], environment={**made.without_kit(), "PYTHONPATH": path})
+        made.done([sys.executable, "-c", clear, ours], environment=made.without_kit(PYTHONPATH=path))
         self.assertEqual([it.relative_to(ours).as_posix() for it in ours.glob("**/*")], ["site", "site/index.html"])
+
+
+class Old(made.InFolder):
+    """What is older than its sources is built anew."""
+
+    def test_wheel(self) -> None:
+        for name, text in {"Makefile": "out/libnr.so.2: nr.h\n\tcp nr.h $@\n", "nr.h": "new", "out/libnr.so.2": "old"}.items():
+            (self.folder / name).parent.mkdir(exist_ok=True)
+            (self.folder / name).write_text(text)
+        os.utime(self.folder / "out" / "libnr.so.2", (0, 0))
+        shutil.copy(made.ROOT / "c" / "nr_build.py", self.folder)
+        said = made.done([sys.executable, "-c", "import nr_build; print(nr_build.library())"], self.folder)
+        self.assertEqual(said, "b'new'\n")
+
+    def test_library(self) -> None:
+        words = ["make", "-n", "-C", made.ROOT / "c", "-W", "octave/nr_sentences.h", "out/libnr.so.2"]
+        self.assertIn("fault_name.o", made.done(words))
 
 
 class Installed(Placed):

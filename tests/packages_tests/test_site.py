@@ -115,7 +115,7 @@ class Documents(made.InFolder):
         made.done(["make", "-s", "-C", made.ROOT, "install-program", "PREFIX=/usr", f"DESTDIR={self.folder}"])
         page = self.folder / "usr" / "share" / "man" / "man5" / "linksim-formats.5"
         man = made.needs("man")
-        environment = {**made.without_kit(), "MANWIDTH": "200", "LC_ALL": "C.UTF-8", "HOME": str(self.folder)}
+        environment = made.without_kit(MANWIDTH=200, LC_ALL="C.UTF-8", HOME=self.folder)
         said = made.done([man, "--warnings", "--nj", "--nh", "-l", page], self.folder, environment)
         document = (made.ROOT / "docs" / "formats.md").read_text()
         for word in ("total rounds", "left <", "order", "stuck", "NoBuffer", "MissingRow", "LongLine", "pcg:"):

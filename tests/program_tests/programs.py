@@ -8,7 +8,6 @@ import os
 import pathlib
 import shutil
 import subprocess
-import sys
 import tempfile
 import typing
 import unittest
@@ -33,10 +32,7 @@ _runs: list[list[str]] = []
 def use(program: pathlib.Path) -> None:
     """Names the program."""
     global _program
-    _program = program.resolve()
-    if not os.access(_program, os.X_OK):
-        sys.exit(f"program: no program at {_program}; tools/first-build builds it")
-    outcome.say_if_old("program", _program)
+    _program = outcome.program_of("program", program)
 
 
 def end() -> None:

@@ -6,9 +6,15 @@ import typing
 
 from model import coding, encoder
 from programs import Program, Row, done, folder, ran
-from texts import CUT_01, lines
+from texts import lines
+from worked_texts import CUT_01
 
 NINE_OCTETS = "313233343536373839"
+NINE_CUT = lines(
+    "block 1 a 72 b 88 graph 2 c 1 l 0 kdash 88 kb 6 z 15 set 7 k 150 n 750",
+    f"attached 1 {NINE_OCTETS}31c3",
+    f"code 1 0 {NINE_OCTETS}31c3",
+)
 
 
 def numbers(n: int, a: int, rate2048: int) -> str:
@@ -49,24 +55,8 @@ ROWS = [
         ),
         blocks=lines("000000", NINE_OCTETS),
     ),
-    Row(
-        "the first block is of nine octets, whose CRC is that of the catalogues",
-        lines(
-            "block 1 a 72 b 88 graph 2 c 1 l 0 kdash 88 kb 6 z 15 set 7 k 150 n 750",
-            "attached 1 31323334353637383931c3",
-            "code 1 0 31323334353637383931c3",
-        ),
-        blocks=lines(NINE_OCTETS),
-    ),
-    Row(
-        "the nine octets without a LF",
-        lines(
-            "block 1 a 72 b 88 graph 2 c 1 l 0 kdash 88 kb 6 z 15 set 7 k 150 n 750",
-            "attached 1 31323334353637383931c3",
-            "code 1 0 31323334353637383931c3",
-        ),
-        blocks=NINE_OCTETS,
-    ),
+    Row("the first block is of nine octets, whose CRC is that of the catalogues", NINE_CUT, blocks=lines(NINE_OCTETS)),
+    Row("the nine octets without a LF", NINE_CUT, blocks=NINE_OCTETS),
     Row(
         "seventeen octets are written with their CRC",
         lines(*cut_by_the_model(1, bytes.fromhex("0123456789abcdeffedcba98765432105f"), 2048)),

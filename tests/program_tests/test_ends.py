@@ -10,20 +10,12 @@ import threading
 
 from programs import Ended, FILES, Program, Row, done, folder, octets, ran, refused
 import programs
-from test_words import OVER_FOUR
-from texts import CUT_01, EXAMPLES, PRACTICE, QUARTER_RATE, WITHOUT_COLUMN_1, lines, six, stuck, ten
-from worked_texts import LONG_HELP
+from texts import EXAMPLES, PRACTICE, QUARTER_RATE, lines, six, ten
+from worked_texts import CUT_01, LONG_HELP, SYMBOLS
 
 # Two rounds of one HARQ process: 24 bits of block 01 leave column 1, and 32 nothing, of 208 positions with 16 fillers.
 ROUNDS = ten("1,0,24,4,1,-,-,all,3,1", "1,0,32,1,1,-,-,all,3,1")
 RECORD = six("1,0,24,4,1,-")
-STUCK = stuck(WITHOUT_COLUMN_1)
-RUN = lines(
-    "sent 1 1 000a51",
-    "left 1 1 0 4",
-    "block 1 open tx 1 failed 1 of 1",
-    "total blocks 1 delivered 0 open 1 contradiction 0 codeblocks 1 failed 1",
-)
 RUN_BY_ROUNDS = lines(
     "sent 1 1 000a51",
     "left 1 1 0 4",
@@ -38,11 +30,9 @@ RUN_BY_ROUNDS = lines(
 TRIALS = [
     ("cut", Row("a block", CUT_01)),
     ("check", Row("a table", "graph 2 entries 105\n")),
-    ("send", Row("a transmission", "sent 1 1 000a51\n", schedule=RECORD)),
-    ("run", Row("a transmission", RUN, schedule=RECORD)),
+    *((command, Row("a transmission", text, schedule=RECORD)) for command, text in SYMBOLS.items()),
     ("run", Row("two rounds", RUN_BY_ROUNDS, schedule=ROUNDS)),
-    ("audit", Row("a transmission", lines(STUCK), schedule=RECORD)),
-    ("audit", Row("two rounds", lines(f"process 3 {STUCK}", "process 3 order 1 0 160"), schedule=ROUNDS)),
+    ("audit", Row("two rounds", f"process 3 {SYMBOLS['audit']}process 3 order 1 0 160\n", schedule=ROUNDS)),
 ]
 
 
@@ -214,7 +204,7 @@ class Sizes(Program):
             self.is_ended(ran(["cut", "--blocks", "long"]), refused(f"blocks {fault}"), f"{more}")
 
 
-# A block that is sent once, as OVER_FOUR has the texts of the commands.
+# A block that is sent once, as SYMBOLS has the texts of the commands.
 ROW = Row("one transmission", schedule=six("1,0,24,4,1,-"))
 # Eight transport blocks of 344 code blocks, each sent once. A receiver of one takes some 15 MiB. So the program's and
 # one receiver's memory is within the limit in KiB, and that of eight is not.
@@ -236,7 +226,7 @@ class Edge(Program):
 
     def test_without_standard_input(self) -> None:
         """No file takes its place: `-` cannot be read, and the other files can."""
-        for command, text in OVER_FOUR.items():
+        for command, text in SYMBOLS.items():
             for name in FILES:
                 found = ran(self.words(command, **{name: "-"}), shell='exec "$@" 0<&-')
                 self.is_ended(found, refused(f"{name} Read"), f"{command} {name}")
@@ -247,13 +237,13 @@ class Edge(Program):
 
     def test_without_standard_output(self) -> None:
         """No file takes its place either."""
-        for command in OVER_FOUR:
+        for command in SYMBOLS:
             self.is_ended(ran(self.words(command), shell='exec "$@" 1>&-'), refused("output Write"), command)
 
     def test_few_descriptors(self) -> None:
         """One file is open at a time: a fourth descriptor is enough."""
         for limit in (6, 4):
-            for command, text in OVER_FOUR.items():
+            for command, text in SYMBOLS.items():
                 self.is_ended(ran(self.words(command), shell=f'ulimit -n {limit}; exec "$@"'), done(text), command)
 
     def test_before_a_fifo(self) -> None:
@@ -277,11 +267,11 @@ class Edge(Program):
                 fifo.write(PRACTICE)
 
         threading.Thread(target=write, daemon=True).start()
-        self.is_ended(ran(self.words("run", table="slow", settings="late")), done(OVER_FOUR["run"]), "a late file")
+        self.is_ended(ran(self.words("run", table="slow", settings="late")), done(SYMBOLS["run"]), "a late file")
 
     def test_standard_input(self) -> None:
         """Each of the files may be standard input."""
-        for command, text in OVER_FOUR.items():
+        for command, text in SYMBOLS.items():
             for name in FILES:
                 found = ran(self.words(command, **{name: "-"}), getattr(ROW, name))
                 self.is_ended(found, done(text), f"{command} {name}")
@@ -291,7 +281,7 @@ class Edge(Program):
         refused for want of memory, with a first part of its text, or it does what it does with all memory. It is never
         ended by a signal."""
         (folder() / "both").write_text((EXAMPLES / "drawn.csv").read_text() + PRACTICE)
-        all_words = [self.words(command, table="both") for command in OVER_FOUR]
+        all_words = [self.words(command, table="both") for command in SYMBOLS]
         for words in [["cut", "--blocks", "blocks"], ["check", "--table", "both"], *all_words]:
             whole, limit, times, loaded = ran(words), 2000, 0, False
             while times < 20:

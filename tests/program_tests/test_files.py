@@ -9,16 +9,12 @@ import typing
 
 from model import chain
 from programs import Program, Row, all_ran, done, refused
-from texts import CUT_01, FULL_RATE, HEADERS, LEAST, PRACTICE, QUARTER_RATE, lines, six, ten
+from texts import FULL_RATE, HEADERS, LEAST, PRACTICE, QUARTER_RATE, lines, six, ten
+from worked_texts import CUT_01, CUT_TWO
 
-# Octets af3c and their CRC16, by long division.
-CUT_AF3C = lines(
-    "block 2 a 16 b 32 graph 2 c 1 l 0 kdash 32 kb 6 z 6 set 1 k 60 n 300", "attached 2 af3cfa9f", "code 2 0 af3cfa9f"
-)
-TWO_BLOCKS = CUT_01 + CUT_AF3C
-
+# (the CRC16 of octets af3c is by long division)
 BLOCKS_ACCEPTED = [
-    Row(repr(text), TWO_BLOCKS, blocks=text)
+    Row(repr(text), CUT_TWO, blocks=text)
     for text in ["01\naF3c", "01\naF3c\n", "01\r\nAf3C\r\n", "01\r\naf3c\r", "01\nAF3C\r\n"]
 ]
 

@@ -10,8 +10,8 @@ import dataclasses
 from model import chain, coding
 import pcg
 from programs import Program, Row
-from texts import ALL_OF_01, PRACTICE, QUARTER_RATE, counted, eight, ending, lines, settings_of, seven, six, ten
-from worked_texts import both_graphs
+from texts import PRACTICE, QUARTER_RATE, counted, eight, ending, lines, settings_of, seven, six, ten
+from worked_texts import ALL_OF_01, both_graphs
 
 # The most bits of a transmission.
 MOST_BITS = 4_194_304

@@ -9,7 +9,7 @@ import typing
 from model import chain, coding
 from programs import Program, Row
 from test_cut import cut_by_the_model
-from texts import eight, lines
+from texts import eight, ending, lines
 from worked_texts import both_graphs
 
 # The octets, the rate in 2048ths, the base graph, and C, K', Zc and its set index.
@@ -77,13 +77,7 @@ def runs(number: int, kind: tuple[int, int, int, list[int]]) -> typing.Iterator[
         text.append([f"sent {t} 1 {chain.hexadecimal(coded.sent(tx))}", *(f"left {t} 1 {r} {left}" for r in range(c))])
     files = {"table": both_graphs(), "settings": f"rate2048 = {rate2048}\n", "blocks": octets_of(octets).hex()}
     for count in [1, 2, 10, 11]:
-        outcome = {1: "open", 11: "contradiction"}.get(count, "delivered")
-        failed, block = (c if count == 1 else 0), (f" {octets_of(octets).hex()}" if outcome == "delivered" else "")
-        counts = " ".join(f"{it} {int(it == outcome)}" for it in ("delivered", "open", "contradiction"))
-        ended = [
-            f"block 1 {outcome} tx {count} failed {failed} of {c}{block}",
-            f"total blocks 1 {counts} codeblocks {c} failed {failed}",
-        ]
+        ended = ending({1: "open", 11: "contradiction"}.get(count, "delivered"), count, octets_of(octets).hex(), c)
         schedule = eight(*map(chain.record, made[:count]))
         wanted = lines(*(line for each in text[:count] for line in each), *ended)
         yield Row(f"{octets} octets, {count} transmissions", wanted, schedule=schedule, **files)

@@ -6,7 +6,8 @@ from __future__ import annotations
 import typing
 
 from programs import Program, Row
-from texts import ALL_BUT_FILLERS, ALL_OF_01, WITHOUT_COLUMN_1, lines, stuck, ten
+from texts import ALL_BUT_FILLERS, lines, ten
+from worked_texts import ALL_OF_01, WITHOUT_COLUMN_1, stuck
 
 BLOCKS = "01\n80\n"
 

@@ -8,10 +8,8 @@ import typing
 from model import chain
 from programs import Program, Row, row
 from test_send import REFUSED_TRANSMISSIONS
-from texts import (
-    ALL_BUT_FILLERS, ALL_OF_01, ALL_OF_ZEROS, FULL_RATE, PRACTICE, QUARTER_RATE, WITHOUT_COLUMN_1, ending, lines, six,
-    stuck, total,
-)
+from texts import ALL_BUT_FILLERS, ALL_OF_ZEROS, FULL_RATE, PRACTICE, QUARTER_RATE, ending, lines, six, total
+from worked_texts import ALL_OF_01, WITHOUT_COLUMN_1, stuck
 
 ZERO_BLOCK = "000000"
 ONE_BIT = "rate2048 = 2048\nlbrm = 1\n"

@@ -7,8 +7,8 @@ import functools
 import operator
 
 from programs import Program, Row, row
-from texts import ALL_OF_01, PRACTICE, QUARTER_RATE, counted, eight, lines, practice_of, practice_with, record, six
-from worked_texts import both_graphs
+from texts import PRACTICE, QUARTER_RATE, counted, eight, lines, practice_of, practice_with, record, six
+from worked_texts import ALL_OF_01, both_graphs
 
 TWO_CODE_BLOCKS = "00" * 479
 ONE_BIT = "rate2048 = 2048\nlbrm = 1\n"

@@ -5,8 +5,8 @@ from __future__ import annotations
 import os
 
 from programs import Ended, Program, done, folder, octets, ran, refused
-from texts import CUT_01, FULL_RATE, PRACTICE, WITHOUT_COLUMN_1, lines, six, stuck
-from worked_texts import HELP, LONG_HELP, PROGRAM_HELP
+from texts import FULL_RATE, PRACTICE, six
+from worked_texts import CUT_01, HELP, LONG_HELP, PROGRAM_HELP, SYMBOLS
 
 ZERO = "00" * 37
 # 37 octets take base graph 2 at most at 1372, and at a rate of one digit.
@@ -22,17 +22,6 @@ PATHS = {
     "d": six("1,0,24,4,1,-"),
     "f": ZERO,
     "t": PRACTICE,
-}
-SENT = "sent 1 1 000a51\n"
-OVER_FOUR = {
-    "send": SENT,
-    "run": SENT
-    + lines(
-        "left 1 1 0 4",
-        "block 1 open tx 1 failed 1 of 1",
-        "total blocks 1 delivered 0 open 1 contradiction 0 codeblocks 1 failed 1",
-    ),
-    "audit": lines(stuck(WITHOUT_COLUMN_1)),
 }
 
 # The words, standard input, and the text.
@@ -54,7 +43,7 @@ JOBS = [
     ("check --table=-", PRACTICE, "graph 2 entries 105\n"),
     *[
         (words, stdin, text)
-        for command, text in OVER_FOUR.items()
+        for command, text in SYMBOLS.items()
         for words, stdin in [
             (f"{command} --table a --settings b --blocks c --schedule d", ""),
             (f"{command} --schedule d --table a --settings b --blocks c", ""),

@@ -83,25 +83,10 @@ ONE_EXTENSION_RECORDS = [record(1, row, 22 + row, 0) for row in range(4, 46)]
 # A small table of base graph 1, with one information column in the core rows: 55 records.
 LEAST = lines(*(record(1, row, 0, 0) for row in range(4)), *ONE_CORE_RECORDS, *ONE_EXTENSION_RECORDS)
 
-# The bits that are ever sent of block 01 (184), and of the block 000000 (320).
-ALL_OF_01 = "1021033022000008108800000240220000081088000002"
+# The 320 bits that are ever sent of the block 000000.
 ALL_OF_ZEROS = "0" * 80
 
-# What `cut` makes of block 01.
-CUT_01 = lines(
-    "block 1 a 8 b 24 graph 2 c 1 l 0 kdash 24 kb 6 z 4 set 0 k 40 n 200", "attached 1 011021", "code 1 0 011021"
-)
-
-
-def stuck(columns: list[int], before: str = "stuck 1 0", z: int = 4) -> str:
-    """The line of a code block that is stuck on these columns of its codeword, each of z positions."""
-    positions = [z * column + at for column in columns for at in range(z)]
-    return f"{before} {len(positions)} {' '.join(map(str, positions))}"
-
-
-# If 24 bits of block 01 were heard: column 1 is left, with it columns 12 and 13, and its rotations.
-WITHOUT_COLUMN_1 = [1, 12, 13, 21, 31, 41, 51]
-# If nothing was heard: all but the fillers, which are columns 6 to 9, and their rotations.
+# The columns of block 01 that are left if nothing was heard: all but the fillers, which are columns 6 to 9, and their rotations.
 ALL_BUT_FILLERS = [column for column in range(52) if column in range(10, 14) or column % 10 < 6]
 
 

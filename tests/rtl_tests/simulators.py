@@ -7,7 +7,6 @@ import dataclasses
 import os
 import pathlib
 import shutil
-import subprocess
 import sys
 import tempfile
 import typing
@@ -21,8 +20,6 @@ DPI = C / "dpi"
 RTL = pathlib.Path(__file__).resolve().parent / "rtl"
 EXAMPLES = ROOT / "examples" / "rtl"
 FOLDER = pathlib.Path(tempfile.mkdtemp(prefix="nr-rtl-"))
-# A simulation that hangs ends the test; a busy machine does not.
-SECONDS = 600
 
 PACKAGE = DPI / "nr_dpi_pkg.sv"
 DUT = [EXAMPLES / name for name in ("nr_crc.sv", "nr_interleaver.sv", "beat_queue.sv", "code_block_chain.sv")]
@@ -77,19 +74,13 @@ def end() -> None:
 
 def ran(words: typing.Sequence[object], folder: pathlib.Path | None = None) -> tuple[int, str]:
     """A command's status and what it wrote, standard error after standard output."""
-    ended = subprocess.run(
-        [str(word) for word in words], cwd=folder, stdin=subprocess.DEVNULL, timeout=SECONDS, stdout=subprocess.PIPE,
-        stderr=subprocess.STDOUT, check=False,
-    )
-    return ended.returncode, ended.stdout.decode(errors="replace")
+    status, said = built.ran(words, folder)
+    return status, said.decode(errors="replace")
 
 
 def done(words: typing.Sequence[object], folder: pathlib.Path | None = None) -> str:
     """What a command wrote; a failure fails the test."""
-    status, said = ran(words, folder)
-    if status:
-        raise AssertionError(f"{' '.join(map(str, words))}: status {status}\n{said}")
-    return said
+    return built.done(words, folder).decode(errors="replace")
 
 
 def vpi() -> pathlib.Path:

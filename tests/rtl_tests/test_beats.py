@@ -79,12 +79,9 @@ class Python(unittest.TestCase):
             self.assertRaises(Wrong, Bus, width)
         self.assertRaises(ValueError, nr.beats, b"\1", 8, "big")
         self.assertRaises(ValueError, nr.bits_of_beats, [256], 8)
-        with self.assertRaises(nr.Fault) as fault:
-            nr.beats([0, 3], 8)
-        self.assertEqual(fault.exception.name, "Bit")
-        with self.assertRaises(nr.Fault) as fault:
-            nr.bits_of_beats([1], 8, count=9)
-        self.assertEqual(fault.exception.name, "Length")
+        self.assertRaises(TypeError, nr.bits_of_beats, [1.5], 8)
+        self.assertEqual(built.fault_of(nr.beats, [0, 3], 8).name, "Bit")
+        self.assertEqual(built.fault_of(nr.bits_of_beats, [1], 8, count=9).name, "Length")
 
 
 # What tb_judge writes, its errors without where they stand.
@@ -130,6 +127,8 @@ ERROR: tkeep or tlast of beat 0 is X or Z
 X of tlast: wrong, 14 faults
 ERROR: beat 0 that is heard has X or Z
 X that is heard: holds, 15 faults
+ERROR: tkeep or tlast of stage 6 is X or Z
+X of a scoreboard's tkeep: wrong, 16 faults
 """
 HEARD = "heard: holds, {faults} faults\n" * 9 + """\
 taken: holds, {faults} faults
@@ -174,12 +173,13 @@ class Judge(unittest.TestCase):
         self.judge("judge", WANTED, 10)
 
     def test_vpi(self) -> None:
-        self.judge("judge-icarus", WANTED + UNKNOWN, 15)
+        self.judge("judge-icarus", WANTED + UNKNOWN, 16)
 
     def test_vpi_under_valgrind(self) -> None:
         """No call by VPI reads or writes what it may not."""
         tool = built.needs("valgrind")
         built.needs("iverilog")
         words = [tool, "--quiet", "--error-exitcode=9", "vvp", "-M", simulators.FOLDER, "-mnr"]
-        said = simulators.done([*words, simulators.begin("judge-icarus").result(), f"+table={built.PRACTICE}"])
+        given = [simulators.begin("judge-icarus").result(), f"+table={built.PRACTICE}"]
+        said = simulators.done([*words, *given], simulators.FOLDER)
         self.assertNotRegex(said, r"(?m)^==\d+==")

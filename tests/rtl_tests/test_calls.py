@@ -161,15 +161,17 @@ class Calls(built.InFolder):
         self.assertEqual(bytes(int(it[3][0], 16) for it in found[3:]), attached)
 
     def test_receiver(self) -> None:
-        """Two transmissions, of which neither is enough: what is left after each, and the block; a refused one is not heard."""
+        """Two transmissions, of which neither is enough: what is left after each, and the block. A refused one is not heard, and
+        an erased beat past G says nothing."""
         block = b"\1"
         first = coding.sent(PRACTICE, block, built.tx(24), 2048)
         second = coding.sent(PRACTICE, block, built.tx(40, rv=2), 2048)
         one, two, three = (int(digits_of(bits[::-1]), 2) for bits in (first, second[:32], second[32:]))
         found = self.said(
             *begins(), "receiver_left 0", f"receiver_hear 0 24 0 {one:x} fff000", "receiver_take", "receiver_left 0",
-            "receiver_beat 0 8 1", f"receiver_hear 0 32 0 {two:x} 0", f"receiver_hear 1 32 0 {three:x} ffffff00", "tx 2 39 2 1",
-            "receiver_take", "tx 2 40 1 1", "receiver_take", "receiver_left 0", "receiver_beat 0 8 1",
+            "receiver_beat 0 8 1", f"receiver_hear 0 32 0 {two:x} 0", f"receiver_hear 1 32 0 {three:x} ffffff00",
+            "receiver_hear 2 32 0 0 ffffffff", "tx 2 39 2 1", "receiver_take", "tx 2 40 1 1", "receiver_take", "receiver_left 0",
+            "receiver_beat 0 8 1",
         )[4:]
         states = [(name, status) for name, status, _, _ in found if status != "Ok"]
         self.assertEqual(states, [("receiver_beat", "Beat"), ("receiver_take", "Ragged")])

@@ -35,19 +35,26 @@ class Examples(built.InFolder):
         self.assertEqual(text.count(right), 1)
         (self.copy / name).write_text(text.replace(right, wrong))
 
-    def test_verilator(self) -> None:
-        built.needs("verilator")
-        status, said = self.made("verilator")
+    def judged(self, simulator: str, tool: str) -> None:
+        built.needs(tool)
+        status, said = self.made(simulator)
         self.assertEqual(status, 0, said)
         for line in ("tb_crc: 60 blocks, 0 faults", "tb_interleaver: 60 code blocks, 0 faults"):
             self.assertIn(line, said)
 
+    def test_verilator(self) -> None:
+        self.judged("verilator", "verilator")
+
     def test_icarus(self) -> None:
-        built.needs("iverilog")
-        status, said = self.made("icarus")
-        self.assertEqual(status, 0, said)
-        for line in ("tb_crc: 60 blocks, 0 faults", "tb_interleaver: 60 code blocks, 0 faults"):
-            self.assertIn(line, said)
+        self.judged("icarus", "iverilog")
+
+    def test_changes(self) -> None:
+        """A model is built anew of other pins, and over another library."""
+        (self.copy / "out").mkdir()
+        for name in ("nr.vpi", "suite.vvp"):
+            (self.copy / "out" / name).touch()
+        for changed in (self.copy.resolve() / "code_block_pins.svh", built.STATIC):
+            self.assertIn("iverilog -g2012", self.made("-n", "-W", str(changed), "out/suite.vvp")[1])
 
     def test_suite(self) -> None:
         """The encoder over the cases of a suite, in both simulators: right, and with a mistake that is named."""

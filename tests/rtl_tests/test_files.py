@@ -37,11 +37,8 @@ class Files(built.InFolder):
 
     def suite(self) -> tuple[pathlib.Path, pathlib.Path]:
         """A table of both base graphs, and its suite."""
-        table, suite = self.file("table.csv", simulators.tables()), self.folder / "suite.jsonl"
-        status, output, error = shared.tool("conform", "suite", "--table", table)
-        self.assertEqual((status, error), (0, ""))
-        suite.write_text(output)
-        return table, suite
+        table = self.file("table.csv", simulators.tables())
+        return table, self.file("suite.jsonl", shared.made("conform", "suite", "--table", table))
 
     def exported(self, suite: pathlib.Path, name: str, *words: object) -> dict[str, typing.Any]:
         """The manifest of what `export` writes."""
@@ -92,8 +89,7 @@ class Files(built.InFolder):
     def test_rom(self) -> None:
         """The ROM of a table, read by both simulators, has each entry in its section, and all sections are equally long."""
         table = self.file("table.csv", simulators.tables())
-        status, output, error = shared.tool("table", "rom", table)
-        self.assertEqual((status, error), (0, ""))
+        output = shared.made("table", "rom", table)
         path = self.file("rom.mem", output)
         depth = int(re.findall(r"(\d+) words a section", output)[0])
         entries = sorted([int(field) for field in line.split(",")] for line in simulators.tables().split())

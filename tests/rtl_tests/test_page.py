@@ -89,6 +89,7 @@ class Page(built.InFolder):
             (f"# a comment\n\n{long}", "nr_scoreboard: 1 cases, 0 faults\n"), ("id a rate2048 7 g x a 01\n", "nr_golden_next is refused: Case"),
             (f"id a rate2048 512 g 24 a {'00' * 955}\n", "nr_golden_next is refused: Uneven"),
             (f"{long[:-1]}{'5a' * 5000}\n", "nr_golden_next is refused: Case"),
+            (f"id a rate2048 2048 g {2**32 + 24} a 01\n", "nr_golden_next is refused: Case"),
         ):
             self.file("cases.txt", text)
             self.assertIn(said, self.simulated())
