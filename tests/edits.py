@@ -11,6 +11,7 @@ from __future__ import annotations
 import dataclasses
 import pathlib
 import re
+import shutil
 import typing
 
 ROOT = pathlib.Path(__file__).resolve().parent.parent
@@ -72,6 +73,17 @@ def read(path: pathlib.Path, crate: pathlib.Path) -> typing.Iterator[Edit]:
         elif word == "new":
             edit.changes.append((file, old, text))
     yield edit
+
+
+def copied(room: str, *left_out: str) -> pathlib.Path:
+    """A copy of the repository with what is built of it, but for folders of these names."""
+    copy = pathlib.Path(room)
+    shutil.copytree(ROOT / "crates", copy / "crates", ignore=shutil.ignore_patterns("out", *left_out))
+    for name in ("crates.txt", "HANDLES"):
+        shutil.copy(ROOT / name, copy / name)
+    for built in ROOT.glob("crates/*/out/rlib"):
+        shutil.copytree(built, copy / built.relative_to(ROOT))
+    return copy
 
 
 def in_gate(crates: pathlib.Path = ROOT / "crates") -> list[Edit]:

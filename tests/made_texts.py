@@ -105,7 +105,7 @@ def for_page(text: str) -> str:
 
     def table(found: re.Match[str]) -> str:
         rows = [row(fault) for fault in faults.SECTIONS[found[2]] if fault.cause]
-        return f"{found[1]}\n| Fault | Cause | Mend |\n|---|---|---|\n" + "\n".join(rows) + f"\n\n{found[3]}"
+        return f"{found[1]}\n| Fault | Cause | Remedy |\n|---|---|---|\n" + "\n".join(rows) + f"\n\n{found[3]}"
 
     return re.sub(f"({MARKS[0]}).*?({MARKS[1]})", table, text, flags=re.DOTALL)
 

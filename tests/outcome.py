@@ -84,11 +84,15 @@ def go_on_with_numpy() -> None:
         os.execv(DEBIAN, [DEBIAN, *sys.argv])
 
 
-def say_if_old(suite: str, program: pathlib.Path) -> None:
-    """Says in a line if a source is newer than the program that was built of it."""
+def program_of(suite: str, path: pathlib.Path) -> pathlib.Path:
+    """The program that a suite runs, or its end if there is none. If a source is newer than what was built, a line says so."""
+    program = pathlib.Path(path).resolve()
+    if not os.access(program, os.X_OK):
+        sys.exit(f"{suite}: no program at {program}; tools/first-build builds it")
     source = newest_source(["linksim", *crates_and_below()["linksim"]])
     if program == BUILT and program.stat().st_mtime < source.stat().st_mtime:
         print(f"{suite}: the program is older than {source.relative_to(ROOT)}: tools/first-build makes it anew", flush=True)
+    return program
 
 
 def told(suite: str, result: unittest.TestResult) -> int:

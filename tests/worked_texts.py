@@ -52,23 +52,23 @@ INPUTS = {
 }
 
 
-def stuck(columns: list[int]) -> str:
-    """Columns 0 to 51 of block 01's codeword on which peeling is stuck, by position."""
+def stuck(columns: list[int], before: str = "stuck 1 0") -> str:
+    """The line of a code block that is stuck on these columns of its codeword, each of four positions."""
     positions = [4 * column + at for column in columns for at in range(4)]
-    return f"stuck 1 0 {len(positions)} {' '.join(map(str, positions))}\n"
+    return f"{before} {len(positions)} {' '.join(map(str, positions))}"
 
 
-CUT_ONE = """block 1 a 8 b 24 graph 2 c 1 l 0 kdash 24 kb 6 z 4 set 0 k 40 n 200
+CUT_01 = """block 1 a 8 b 24 graph 2 c 1 l 0 kdash 24 kb 6 z 4 set 0 k 40 n 200
 attached 1 011021
 code 1 0 011021
 """
 
-CUT_TWO = f"""{CUT_ONE}block 2 a 16 b 32 graph 2 c 1 l 0 kdash 32 kb 6 z 6 set 1 k 60 n 300
+CUT_TWO = f"""{CUT_01}block 2 a 16 b 32 graph 2 c 1 l 0 kdash 32 kb 6 z 6 set 1 k 60 n 300
 attached 2 af3cfa9f
 code 2 0 af3cfa9f
 """
 
-CUT_EXAMPLES = f"""{CUT_ONE}block 2 a 8 b 24 graph 2 c 1 l 0 kdash 24 kb 6 z 4 set 0 k 40 n 200
+CUT_EXAMPLES = f"""{CUT_01}block 2 a 8 b 24 graph 2 c 1 l 0 kdash 24 kb 6 z 4 set 0 k 40 n 200
 attached 2 809188
 code 2 0 809188
 block 3 a 72 b 88 graph 2 c 1 l 0 kdash 88 kb 6 z 15 set 7 k 150 n 750
@@ -115,24 +115,25 @@ FIELDS = {
     "send": "sent 1 1 10\nsent 2 1 10\n",
     "run": "sent 1 1 10\nleft 1 1 0 16\nsent 2 1 10\nleft 2 1 0 16\nblock 1 open tx 2 failed 1 of 1\n"
     "total blocks 1 delivered 0 open 1 contradiction 0 codeblocks 1 failed 1\n",
-    "audit": stuck([at for at in range(52) if at in range(10, 14) or at % 10 not in HEARD]),
+    "audit": stuck([at for at in range(52) if at in range(10, 14) or at % 10 not in HEARD]) + "\n",
 }
 
-# The two punctured columns are what peeling fixes.
-WHOLE_BITS = "1021033022000008108800000240220000081088000002"
+# The 184 bits that are ever sent of block 01. The two punctured columns are what peeling fixes.
+ALL_OF_01 = "1021033022000008108800000240220000081088000002"
 WHOLE = {
-    "send": f"sent 1 1 {WHOLE_BITS}\n",
-    "run": f"sent 1 1 {WHOLE_BITS}\nleft 1 1 0 0\nblock 1 delivered tx 1 failed 0 of 1 01\n"
+    "send": f"sent 1 1 {ALL_OF_01}\n",
+    "run": f"sent 1 1 {ALL_OF_01}\nleft 1 1 0 0\nblock 1 delivered tx 1 failed 0 of 1 01\n"
     "total blocks 1 delivered 1 open 0 contradiction 0 codeblocks 1 failed 0\n",
     "audit": "order 1 0 8\n",
 }
 
 # 24 bits leave column 1, and with it columns 12 and 13 and the rotations of column 1.
+WITHOUT_COLUMN_1 = [1, 12, 13, 21, 31, 41, 51]
 SYMBOLS = {
     "send": "sent 1 1 000a51\n",
     "run": "sent 1 1 000a51\nleft 1 1 0 4\nblock 1 open tx 1 failed 1 of 1\n"
     "total blocks 1 delivered 0 open 1 contradiction 0 codeblocks 1 failed 1\n",
-    "audit": stuck([1, 12, 13, 21, 31, 41, 51]),
+    "audit": stuck(WITHOUT_COLUMN_1) + "\n",
 }
 
 # A buffer of 13 bits, in which both versions begin with columns 2 and 3: five places of them are heard, and then all.
@@ -160,7 +161,7 @@ process 15 block 1 open tx 1 failed 1 of 1
 total rounds 3 delivered 2 open 1 contradiction 0 codeblocks 3 failed 1
 """,
     "audit": "process 0 order 1 0 164\nprocess 0 order 1 0 160\n"
-    + "process 15 " + stuck([1, 12, 13, 21, 31, 41, 51]),
+    + stuck(WITHOUT_COLUMN_1, "process 15 stuck 1 0") + "\n",
 }
 
 
