@@ -72,15 +72,21 @@ SENT_BITS = 2 * BLOCK_BITS
 SOME = round(0.15 * 2**32)
 
 
+def lines_file(
+    folder: pathlib.Path, name: str, lines: list[str], columns: str = "block,rv,g,qm,nl,erase"
+) -> pathlib.Path:
+    """The path of a schedule with these lines."""
+    path = folder / name
+    path.write_text(columns + "\n" + "".join(line + "\n" for line in lines))
+    return path
+
+
 def schedule_file(folder: pathlib.Path, count: int, threshold: int = 0) -> pathlib.Path:
     """The path of a schedule that sends each of `count` blocks once, six bits a symbol. The link erases a place if its
     number is below the threshold."""
-    path = folder / f"schedule-{count}-{threshold}.csv"
-    with path.open("w") as file:
-        file.write("block,rv,g,qm,nl,erase\n")
-        for number in range(1, count + 1):
-            file.write(f"{number},0,{SENT_BITS},6,1,{f'pcg:{number}:{threshold}' if threshold else '-'}\n")
-    return path
+    drawn = {number: f"pcg:{number}:{threshold}" if threshold else "-" for number in range(1, count + 1)}
+    lines = [f"{number},0,{SENT_BITS},6,1,{erase}" for number, erase in drawn.items()]
+    return lines_file(folder, f"schedule-{count}-{threshold}.csv", lines)
 
 
 def words_of(command: str, table: Word, settings: Word, blocks: Word, schedule: Word) -> list[Word]:
@@ -108,15 +114,6 @@ ROWS: list[tuple[str, list[int], WordsIn]] = [
     ("run, 15 %", [2, 8, 32], sent_once("run", SOME)),
     ("audit", [2, 8, 32], sent_once("audit")),
 ]
-
-
-def lines_file(
-    folder: pathlib.Path, name: str, lines: list[str], columns: str = "block,rv,g,qm,nl,erase"
-) -> pathlib.Path:
-    """The path of a schedule with these lines."""
-    path = folder / name
-    path.write_text(columns + "\n" + "".join(line + "\n" for line in lines))
-    return path
 
 
 # The longest schedule, and the most bits of a transmission.
