@@ -4,25 +4,39 @@ from __future__ import annotations
 
 import os
 
+import curve_files
 from hosts_here import Hosts, missing
-from running import Running, skip_without
+from running import RULE, Running, skip_without
 
 
 class StandIn(Running):
-    def test_a_machine_that_dies_silently(self) -> None:
-        """It does not close its connection, so that ssh has to ask it; but who names another ssh gets that one."""
+    def asked(self, hosts: str, **more: str) -> list[str]:
+        """What a run over these machines calls, by stand-ins: ssh and rsh take half a second, and GNU parallel makes nothing."""
         asked = self.folder / "asked"
         for name in ("ssh", "rsh"):
-            self.file(name, f'#!/bin/sh\necho {name} "$@" >> {asked}\n').chmod(0o755)
-        self.file("parallel", f'#!/bin/sh\necho "$PARALLEL_SSH" >> {asked}\necho GNU parallel\n').chmod(0o755)
+            self.file(name, f'#!/bin/sh\nsleep 0.5\necho {name} "$@" >> {asked}\n').chmod(0o755)
+        self.file("parallel", f'#!/bin/sh\necho "$PARALLEL_SSH" parallel "$@" >> {asked}\necho GNU parallel\n').chmod(0o755)
+        environment = {**os.environ, "PATH": f"{self.folder}:{os.environ['PATH']}", **more}
+        self.refused("--engine", f"ssh:{hosts}", environment=environment)
+        lines = [line for line in asked.read_text().splitlines() if not line.endswith("--version")]
+        asked.unlink()
+        return lines
+
+    def test_a_machine_that_dies_silently(self) -> None:
+        """It does not close its connection, so that ssh has to ask it; but who names another ssh gets that one."""
         cases: list[tuple[dict[str, str], str]] = [({}, "ssh -o ServerAliveInterval=60"), ({"PARALLEL_SSH": "rsh"}, "rsh")]
         for more, wanted in cases:
-            environment = {**os.environ, "PATH": f"{self.folder}:{os.environ['PATH']}", **more}
-            self.refused("--engine", "ssh:1/one.example", environment=environment)
-            lines = [line for line in asked.read_text().splitlines() if line]
-            asked.unlink()
-            self.assertGreater(len(lines), 1)
+            lines = self.asked("1/one.example", **more)
+            self.assertEqual(len(lines), 2)
             self.assertTrue(all(line.startswith(wanted) for line in lines), lines)
+
+    def test_many_logins(self) -> None:
+        """More than nine at a time are begun one after another, for sshd drops some. A machine may have a port."""
+        self.conf.write_text(curve_files.text_of("table.csv", curve_files.LONG, {**RULE, "points": [p / 20 for p in range(12)]}))
+        self.assertIn("--sshlogin 9/one.example --sshdelay 0.000 ", self.asked("9/one.example")[-1])
+        *asked, called = self.asked("8/one.example,16/two.example:2222")
+        self.assertRegex(called, r"--sshlogin 8/one\.example,12/two\.example:2222 --sshdelay (?!0\.0)")
+        self.assertEqual([line.split()[-4:] for line in asked if "two" in line], [["-p", "2222", "two.example", "true"]])
 
     def test_words(self) -> None:
         for name in ("ssh:", "ssh:2/", "ssh:0/a", "ssh:a/b/c", "slow", "dask:", "local:2", "slurm:'"):

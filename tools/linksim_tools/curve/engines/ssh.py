@@ -26,6 +26,9 @@ SSH = "ssh -o ServerAliveInterval=60 -o ServerAliveCountMax=5"
 # So many seconds a machine is waited for that is asked whether it is there.
 PATIENCE = 60
 
+# sshd drops logins once ten are begun at a time (MaxStartups). Beyond nine GNU parallel counts how many it takes.
+LOGINS = 9
+
 # The machine that GNU parallel reaches without ssh: this one.
 HERE = ":"
 
@@ -38,16 +41,22 @@ def has_gnu_parallel() -> bool:
     return said.stdout.startswith("GNU parallel")
 
 
-def answers(host: str) -> bool:
-    """Whether a machine runs a command now. GNU parallel's own question takes a busy machine for a fault of its own."""
-    words = [*shlex.split(os.environ.get("PARALLEL_SSH", SSH)), host, "true"]
-    if host == HERE:
-        return True
+def ssh_of(host: str) -> list[str]:
+    """The words of ssh to a machine, which GNU parallel also takes with a port, as one.example:2222."""
+    name, _, port = host.partition(":") if host.count(":") == 1 else (host, "", "")
+    return [*shlex.split(os.environ.get("PARALLEL_SSH") or SSH), *(["-p", port] if port else []), name]
+
+
+def login(host: str) -> float | None:
+    """How many seconds a machine takes to run a command, or nothing if it does not. GNU parallel's own question takes a busy
+    machine for a fault of its own."""
+    words, begun = ["true"] if host == HERE else [*ssh_of(host), "true"], time.monotonic()
+    nothing = subprocess.DEVNULL  # a pipe would be held open by what ssh may leave in the background (ControlPersist)
     try:
-        said = subprocess.run(words, capture_output=True, stdin=subprocess.DEVNULL, timeout=PATIENCE)
+        said = subprocess.run(words, stdin=nothing, stdout=nothing, stderr=nothing, timeout=PATIENCE)
     except (OSError, subprocess.TimeoutExpired):
-        return False
-    return not said.returncode
+        return None
+    return None if said.returncode else time.monotonic() - begun
 
 
 def end_quietly(child: subprocess.Popen[str]) -> None:
@@ -83,27 +92,31 @@ class Ssh(Engine):
         return 4 * self.slots()
 
     def lines(self, call: Call, batches: list[list[Task]]) -> typing.Iterator[str]:
-        logins = self.answering()
-        if not logins:
+        times = self.answering()
+        if not times:
             raise Failed(f"none of the machines of ssh:{self.hosts} answers")
-        said = yield from self.sent(call, batches, logins)
+        said = yield from self.sent(call, batches, times)
         if said:
             raise Failed(first_fault(said, "GNU parallel failed"))
 
-    def answering(self) -> list[str]:
-        """The machines that answer, each with its count: all are asked again if none does."""
+    def answering(self) -> dict[str, float]:
+        """The machines that answer, each with the time that it took: all are asked again if none does."""
+        times: dict[str, float] = {}
         for _ in range(TRIES):
             with concurrent.futures.ThreadPoolExecutor(len(self.counts)) as pool:
-                found = list(pool.map(answers, self.counts))
-            if any(found):
+                found = zip(self.counts, pool.map(login, self.counts))
+                times = {host: seconds for host, seconds in found if seconds is not None}
+            if times:
                 break
-        return [f"{count}/{host}" for (host, count), there in zip(self.counts.items(), found) if there]
+        return times
 
-    def sent(self, call: Call, batches: list[list[Task]], logins: list[str]) -> typing.Generator[str, None, str]:
-        """The lines of batches, and what was said if they failed."""
+    def sent(self, call: Call, batches: list[list[Task]], times: dict[str, float]) -> typing.Generator[str, None, str]:
+        """The lines of batches, and what was said if they failed. Logins are so far apart that sshd takes them all."""
+        counts = {host: min(self.counts[host], len(batches)) for host in times}
+        delay = max(times.values()) / 5 if max(counts.values()) > LOGINS else 0
         command = [
-            "parallel", "--sshlogin", ",".join(logins), "--retries", str(TRIES), "--halt", "now,fail=1",
-            f"{shlex.join(call.words())} {{}}",
+            "parallel", "--sshlogin", ",".join(f"{count}/{host}" for host, count in counts.items()), "--sshdelay", f"{delay:.3f}",
+            "--retries", str(TRIES), "--halt", "now,fail=1", f"{shlex.join(call.words())} {{}}",
         ]
         with tempfile.TemporaryFile("w+") as words, tempfile.TemporaryFile("w+") as error:
             words.writelines(f"{word_of(batch)}\n" for batch in batches)
