@@ -77,6 +77,13 @@ class Ssh(Running):
         environment = {**self.hosts.environment, "PARALLEL_SSH": ssh}
         self.run_whole("--engine", "ssh:2/one.example,2/two.example", environment=environment)
 
+    def test_a_machine_that_takes_no_batch(self) -> None:
+        """It answers before: what ssh says then is told, and not which command failed."""
+        lost = self.file("lost", '#!/bin/sh\ncase "$*" in *true) exit;; esac\necho "Connection reset" >&2; exit 255\n')
+        lost.chmod(0o755)
+        environment = {**self.hosts.environment, "PARALLEL_SSH": str(lost)}
+        self.assertIn("tools/curve: Connection reset\n", self.refused("--engine", "ssh:2/one.example", environment=environment))
+
     def test_no_machine(self) -> None:
         said = self.refused("--engine", "ssh:2/three.example", environment=self.hosts.environment)
         self.assertEqual(self.count(), 0)

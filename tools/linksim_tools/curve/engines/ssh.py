@@ -130,7 +130,7 @@ class Ssh(Engine):
                 if not self.child.wait():
                     return ""
                 error.seek(0)
-                return error.read() or "GNU parallel failed"
+                return error.read().partition("parallel: This job failed:")[0] or "GNU parallel failed"
             finally:
                 end_quietly(self.child)
 
