@@ -41,6 +41,10 @@ class StandIn(Running):
     def test_words(self) -> None:
         for name in ("ssh:", "ssh:2/", "ssh:0/a", "ssh:a/b/c", "slow", "dask:", "local:2", "slurm:'"):
             self.assertIn("--engine", self.refused("--engine", name))
+        for name in ("ssh:1/one.example", "dask:127.0.0.1:1"):
+            status, said = self.told("--engine", name, "--jobs", 2)
+            self.assertEqual((status, said.count("\n"), self.out.exists()), (2, 1, False), said)
+            self.assertIn("--jobs is for --engine local and slurm: ", said)
 
 
 class Ssh(Running):

@@ -69,6 +69,8 @@ class Engine(typing.Protocol):
 def engine_named(text: str, jobs: int | None, least: float | None, latency: float | None, out: pathlib.Path) -> Engine:
     """The engine that a word names; results go to `out`. Slurm's files are looked for so many seconds after a job's end."""
     kind, _, at = text.partition(":")
+    if jobs is not None and kind in ("ssh", "dask"):
+        raise Wrong("--jobs is for --engine local and slurm: ssh:8/one has counts, and dask the threads of its workers")
     engine: Engine
     if kind == "local" and not at:
         from linksim_tools.curve.engines.local import Local
