@@ -2,6 +2,10 @@
 
 from __future__ import annotations
 
+import os
+import sys
+import unittest.mock
+
 from dask_here import Scheduler, missing
 from ports import free_ports
 from running import Running, kill, skip_without
@@ -29,6 +33,22 @@ class Dask(Running):
         with self.begun(3, "--engine", f"dask:{found.address}", "--batch", 0.1) as child:
             kill(child.pid)
         self.run_whole("--engine", f"dask:{found.address}")
+
+    def test_a_call_that_fails(self) -> None:
+        """It is made again twice. The Python of its worker fails at the first two calls."""
+        calls = self.folder / "calls"
+        text = f'#!/bin/sh\necho >> {calls}\n[ $(wc -l < {calls}) -gt 2 ] || exit 1\nexec {sys.executable} "$@"\n'
+        self.file("python3", text).chmod(0o755)
+        with unittest.mock.patch.dict(os.environ, {"PATH": f"{self.folder}:{os.environ['PATH']}"}):
+            found = self.scheduler(1)
+        self.run_whole("--engine", f"dask:{found.address}")
+        self.assertGreater(calls.read_text().count("\n"), 2)
+        # What fails each time is told by its own words.
+        self.out.unlink()
+        self.file("python3", f"#!/bin/sh\necho >> {calls}\necho tools/curve: it has no Python >&2\nexit 1\n").chmod(0o755)
+        calls.write_text("")
+        self.assertIn("tools/curve: it has no Python\n", self.refused("--engine", f"dask:{found.address}"))
+        self.assertGreater(calls.read_text().count("\n"), 2)
 
     def test_no_worker_and_no_scheduler(self) -> None:
         """Both are refused at once."""

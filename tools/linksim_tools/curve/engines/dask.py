@@ -45,7 +45,7 @@ class Dask(Engine):
     def lines(self, call: Call, batches: list[list[Task]]) -> typing.Iterator[str]:
         futures = [
             self.client.submit(
-                subprocess.run, [*call.words(), word_of(batch)], capture_output=True, text=True, retries=TRIES,
+                subprocess.run, [*call.words(), word_of(batch)], capture_output=True, text=True, check=True, retries=TRIES - 1,
                 key=f"curve-{time.time_ns()}-{number}", pure=False,
             )
             for number, batch in enumerate(batches)
@@ -54,10 +54,10 @@ class Dask(Engine):
             for future in self.finished(futures):
                 try:
                     ended = future.result()
+                except subprocess.CalledProcessError as error:
+                    raise Failed(first_fault(error.stderr, f"point ended with status {error.returncode}")) from None
                 except Exception as error:
                     raise Failed(f"dask: {type(error).__name__}: {str(error).splitlines()[0] if str(error) else ''}") from None
-                if ended.returncode:
-                    raise Failed(first_fault(ended.stderr, f"point ended with status {ended.returncode}"))
                 yield from ended.stdout.splitlines(keepends=True)
         finally:
             self.client.cancel(futures)
