@@ -133,6 +133,19 @@ for line in sys.stdin:
         for line, said in zip(lines[12:], wanted):
             self.assertIn(said, line)
 
+    def test_an_interruption(self) -> None:
+        """What was answered before is judged, also if failing cases are asked again then."""
+        first, _, third, *_ = self.names()
+        stop = "os.kill(os.getppid(), 2); time.sleep(60)"
+        late = f"if len(seen.read()) > 9: {stop}\n    if case['id'] == {first!r}: case['a']['count'] += 1"
+        for text, answered, more in ((f"if case['id'] == {third!r}: {stop}", 2, []), (late, 9, ["--twice"])):
+            begin = f"import os, time; seen = open({str(self.folder / 'seen')!r}, 'a+'); seen.write('.'); seen.seek(0)\n    "
+            status, lines, error = self.good(begin + text, more=more)
+            said = "the run was interrupted; what was answered before is judged"
+            self.assertEqual((status, error, lines.count(said)), (130, [], 1), lines)
+            self.assertIn(f"9 cases, {answered} answered", lines[0])
+            (self.folder / "seen").unlink()
+
     def test_the_command_hangs(self) -> None:
         second = self.names()[1]
         said = f"at case {second}, number 2 of 9: the command gave no answer for 4.5 s; --seconds gives it longer; the other "

@@ -149,6 +149,15 @@ class Stopped(Run):
         for more in ([], ["--restart"]):
             self.stopped(f"{said}the other cases are judged", 5, *self.good(ends, more=more))
 
+    def test_an_interruption(self) -> None:
+        """What was answered before is judged, and no further level is begun."""
+        third = receiver_shared.FEW[2]
+        stop = f"if it['id'] == {third!r}: import os, time; os.kill(os.getppid(), 2); time.sleep(60)"
+        status, lines, error = self.good(stop, more=["--levels", "4,8"])
+        self.assertEqual((status, error), (130, []))
+        self.assertIn("the run was interrupted; what was answered before is judged", lines)
+        self.assertEqual([line.split(":")[0] for line in lines if line.startswith("levels")], ["levels 4"])
+
     def test_hangs(self) -> None:
         second = self.names()[1]
         said = f"at case {second}, transmission 0, number 2 of 6: the command gave no answer for 6 s"

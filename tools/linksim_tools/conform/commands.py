@@ -10,6 +10,7 @@ import sys
 import typing
 
 from linksim_tools.common.program import Failed, Wrong, as_installed, name_of
+from linksim_tools.conform.run import Run
 
 if typing.TYPE_CHECKING:
     from linksim_tools.conform.report import Report
@@ -93,7 +94,8 @@ def command_of(given: argparse.Namespace) -> list[str]:
 def reported(
     given: argparse.Namespace, made: Report, text: typing.Iterable[str], page: typing.Iterable[str]
 ) -> int:
-    """Writes a report as its options say, as JSON or as text and also as a page, and gives the status."""
+    """Writes a report as its options say, as JSON or as text and also as a page, and gives the status: 130 after an
+    interruption."""
     for line in [json.dumps(made.as_object())] if given.json else text:
         print(line)
     sys.stdout.flush()
@@ -102,7 +104,7 @@ def reported(
             pathlib.Path(given.html).write_text("".join(line + "\n" for line in page), "utf-8", "backslashreplace")
         except OSError as error:
             raise Wrong(f"{given.html} cannot be written: {error.strerror}") from None
-    return made.status()
+    return 130 if Run.interrupted else made.status()
 
 
 def options_of(kind: str) -> argparse.ArgumentParser:

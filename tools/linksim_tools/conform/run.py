@@ -3,6 +3,7 @@ asked of an encoder or a receiver, and how its lines are read, is said by what i
 
 from __future__ import annotations
 
+import contextlib
 import typing
 
 from linksim_tools.conform.answer_lines import Repeated, Wrong, is_answer, left_out
@@ -18,8 +19,21 @@ TROUBLES = 20
 GRACE, START = 1.0, 6
 
 
+@contextlib.contextmanager
+def until_interrupted(troubles: list[str]) -> typing.Iterator[None]:
+    """Goes on until it is interrupted, which is a line more about what could not be judged."""
+    try:
+        yield
+    except KeyboardInterrupt:
+        Run.interrupted = True
+        troubles.append("the run was interrupted; what was answered before is judged")
+
+
 class Run(typing.Generic[Wanted]):
     """A run of a command: lines about what could not be judged. `skip` is how often it is started anew if it stops."""
+
+    # Whether a run of this process was interrupted.
+    interrupted = False
 
     def __init__(self, words: list[str], most: int, seconds: float, skip: int = 0) -> None:
         self.words, self.most, self.seconds, self.skip = words, most, seconds, skip
@@ -47,6 +61,15 @@ class Run(typing.Generic[Wanted]):
             self.command.end()
             self.left_out += self.command.left_out
             self.command = None
+
+    @contextlib.contextmanager
+    def going_on(self) -> typing.Iterator[None]:
+        """Asks until it is interrupted, and ends the command."""
+        try:
+            with until_interrupted(self.troubles):
+                yield
+        finally:
+            self.end()
 
     def take(self, wanted: Wanted, seconds: float) -> bool:
         """Takes the answer to a question; says whether it was one to a question before, which another may follow."""

@@ -17,6 +17,7 @@ from linksim_tools.conform.encoder import run as running
 from linksim_tools.conform.encoder import show as showing
 from linksim_tools.conform.encoder import suite as suites
 from linksim_tools.conform.packing import PACKINGS
+from linksim_tools.conform.run import until_interrupted
 from linksim_tools.conform.steps import FIELDS
 from linksim_tools.rtl import beats, suite_files
 
@@ -73,9 +74,10 @@ def judged(
     made = reporting.report(suite, answers, troubles, notes)
     made.lacking = [*reporting.required(suite, answers, given.require)]
     made.record = recording.record_of(words, suite)
-    if getattr(given, "twice", False):
+    if getattr(given, "twice", False) and not running.Run.interrupted:
         failing = sorted({name for step in made.steps.values() for name in step.failing}, key=list(suite.cases).index)
-        made.twice = asking.again(form_of(given), suite, answers, failing)
+        with until_interrupted(made.troubles):
+            made.twice = asking.again(form_of(given), suite, answers, failing)
     return reported(given, made, reporting.text(made), pages.lines(made))
 
 

@@ -55,7 +55,7 @@ class Run(running.Run[str]):
 
     def go(self, names: typing.Iterable[str]) -> None:
         """Asks these cases, until the command answers no more."""
-        try:
+        with self.going_on():
             for name in names:
                 try:
                     self.ask_case(name)
@@ -63,8 +63,6 @@ class Run(running.Run[str]):
                     number = list(self.suite.cases).index(name) + 1
                     if not self.stopped(f"case {name}, number {number} of {len(self.suite.cases)}", stopped):
                         return
-        finally:
-            self.end()
 
 
 def answers(form: Form, suite: suites.Suite) -> tuple[dict[str, Answer], list[str], list[str]]:

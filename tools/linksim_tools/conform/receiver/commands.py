@@ -91,7 +91,10 @@ def go(given: argparse.Namespace) -> int:
     levels = sorted(dataclasses.replace(manner.level, strong=it) for it in given.levels or ())
     if not levels:
         return judged(given, suite, *run.answers(command, suite, manner), command)
-    found = {level: run.answers(command, suite, dataclasses.replace(manner, level=level)) for level in levels}
+    found: dict[Level, tuple[answering.Answers, list[str], list[str]]] = {}
+    for level in levels:
+        if not run.Run.interrupted:
+            found[level] = run.answers(command, suite, dataclasses.replace(manner, level=level))
     failing = {level: ladder.failing(suite, it[0]) for level, it in found.items()}
     # The report is on the first level with trouble, or at which something fails.
     first = next((it for it in levels if found[it][1] or failing[it]), levels[0])

@@ -73,12 +73,10 @@ class Run(running.Run[typing.Tuple[str, int]]):
 
     def go(self) -> None:
         """Asks all cases, until the command answers no more."""
-        try:
+        with self.going_on():
             for number, kept in enumerate(self.suite.cases.values(), 1):
                 if not self.case(number, kept.case):
                     return
-        finally:
-            self.end()
 
 
 def answers(command: list[str], suite: Suite, manner: Manner) -> tuple[answering.Answers, list[str], list[str]]:
