@@ -1,7 +1,7 @@
 //! What a receiver makes of a code block's store.
 
-ghost use Rattle.std.specs.Prelude.{◌≡◌, ℕ, ◌<◌, length, slice_index_or, IfOk, IfErr};
-ghost use Rattle.nr_segment.specs.{CodeBlock.positions_of, Plan.word_size};
+ghost use Rattle.std.specs.Prelude.{◌≡◌, ℕ, ◌<◌, length, slice_index_or, IfOk, IfErr, OnOk};
+ghost use Rattle.nr_segment.specs.{Plan.word_size};
 ghost use Rattle.nr_peel.specs.Peeling.{Peeling};
 ghost use Rattle.nr_blockdesk.specs.{Heard.heard_of, Receiving.AreStoresFor, Receiving.peelers_of};
 ghost use Rattle.nr_blockdesk.specs.inside.Receiving.{AreWords, IsTied, kept_words};
@@ -12,9 +12,8 @@ use crate::part_masks::has_no_mark;
 use nr_harqbuf::Store;
 use nr_ldpcenc::Word;
 use nr_peel::{Peeler, Recording};
-use nr_segment::Plan;
 use nr_transmission::DeskFault;
-use std::alloc::Global;
+use std::alloc::{AllocError, Global};
 
 /// What follows from a code block's store: a peeler, which has learned what the store tells, and a word. Once the candidate
 /// has been read, `word` is its codeword.
@@ -45,15 +44,13 @@ impl<'t, K: Recording> CodeBlock<'t, K> {
         Ok(CodeBlock { peeler, word })
     }
 
-    // A code block of its own whose peeler knows the same. No candidate was read into its word.
-    fn again(&self, alloc: Global, plan: &Plan) -> Result<CodeBlock<'t, K>, DeskFault>
-        ensures peeler { IfOk result (λ block. block.peeler ≡ self.now.peeler) }
-        ensures word { IfOk result (λ block. length block.word ≡ positions_of plan.now) }
-        ensures err { IfErr result (λ e. e ≡ DeskFault.Memory) }
+    // Its peeler now knows what that of another code block knows. Its word is as it was.
+    fn know_as(&mut self, from: &CodeBlock<'t, K>) -> Result<(), AllocError>
+        ensures peeler { OnOk result (self.new.peeler ≡ from.now.peeler) }
+        ensures word { self.new.word ≡ self.old.word }
     {
-        let peeler = self.peeler.try_clone()?;
-        let word = Word::new(alloc, plan)?;
-        Ok(CodeBlock { peeler, word })
+        self.peeler = from.peeler.try_clone()?;
+        Ok(())
     }
 }
 
@@ -80,20 +77,19 @@ pub(crate) fn code_blocks_of<'t, K: Recording>(
     Ok(blocks)
 }
 
-// For each code block one of its own whose peeler knows the same. It isn't inlined, as `code_blocks_of` isn't.
+// Code blocks whose peelers know the same as those of others. No candidate was read into their words. It isn't inlined, as
+// `code_blocks_of` isn't.
 #[inline(never)]
 pub(crate) fn code_blocks_again<'t, K: Recording>(
-    alloc: Global,
-    plan: &Plan,
-    blocks: &[CodeBlock<'t, K>],
-) -> Result<Vec<CodeBlock<'t, K>>, DeskFault>
-    ensures peelers { IfOk result (λ copies. peelers_of copies.items ≡ peelers_of blocks.now) }
-    ensures words { IfOk result (λ copies. AreWords (length blocks.now) (positions_of plan.now) (kept_words copies.items)) }
-    ensures err { IfErr result (λ e. e ≡ DeskFault.Memory) }
+    mut blocks: Vec<CodeBlock<'t, K>>,
+    from: &[CodeBlock<'t, K>],
+) -> Result<Vec<CodeBlock<'t, K>>, AllocError>
+    requires { length blocks.items ≡ length from.now }
+    ensures peelers { IfOk result (λ copies. peelers_of copies.items ≡ peelers_of from.now) }
+    ensures words { IfOk result (λ copies. kept_words copies.items ≡ kept_words blocks.entry.items) }
 {
-    let mut copies = Vec::with_capacity(alloc, blocks.len())?;
-    for r in 0..blocks.len() {
-        copies.push_reserved(blocks[r].again(alloc, plan)?);
+    for r in 0..from.len() {
+        blocks[r].know_as(&from[r])?;
     }
-    Ok(copies)
+    Ok(blocks)
 }

@@ -1,51 +1,58 @@
-//! A receiver of its own that has received the same.
+//! Putting a receiver back to what another one has received.
 
-ghost use Rattle.std.specs.Prelude.{◌≡◌, IfOk, IfErr};
+ghost use Rattle.std.specs.Prelude.{◌≡◌, IfOk, IfErr, length};
 
 use super::Receiver;
 use crate::code_block::code_blocks_again;
-use crate::part_masks::empty_masks;
-use nr_bitvec::Bits;
 use nr_harqbuf::Store;
 use nr_peel::Recording;
 use nr_transmission::DeskFault;
-use std::alloc::{AllocError, Global};
+use std::alloc::AllocError;
 
 impl<'t, K: Recording> Receiver<'t, K> {
-    /// A receiver of its own over the same link, which has received the same. Its peelers are copies, so it costs less than
-    /// `over`, which sweeps the parity rows. If a candidate was read it is read anew at the next transmission.
+    /// This receiver, which has now received what another one over its link has, and nothing else. It goes on with its own
+    /// lists and with copies of the other's peelers, so it costs less than `over`, which sweeps the parity rows.
     ///
     /// # Errors
     ///
     /// `Memory` if memory runs out.
-    pub fn try_clone(&self) -> Result<Receiver<'t, K>, DeskFault>
-        ensures same { IfOk result (λ receiver. receiver ≡ self.now) }
+    pub fn restored(self, from: &Receiver<'t, K>) -> Result<Receiver<'t, K>, DeskFault>
+        requires link { self.link ≡ from.now.link }
+        ensures same { IfOk result (λ receiver. receiver ≡ from.now) }
         ensures err { IfErr result (λ e. e ≡ DeskFault.Memory) }
     {
-        let plan = self.link.plan();
-        let stores = copied_stores(self.alloc, &self.stores)?;
-        let code_blocks = code_blocks_again(self.alloc, plan, &self.code_blocks)?;
-        let block = Bits::with_room(self.alloc, plan.b)?;
-        let part_masks = empty_masks(self.alloc, plan)?;
-        Ok(Receiver {
-            link: self.link.again(),
+        let Receiver {
+            link,
             stores,
             code_blocks,
             block,
+            part_masks,
+            alloc,
+            ..
+        } = self;
+        let stores = stores_again(stores, &from.stores)?;
+        let code_blocks = code_blocks_again(code_blocks, &from.code_blocks)?;
+        Ok(Receiver {
+            link,
+            stores,
+            code_blocks,
+            block,
+            // A candidate that was read is read anew at the next transmission.
             candidate_read: false,
             part_masks,
-            alloc: self.alloc,
+            alloc,
         })
     }
 }
 
-// Stores of their own in which the same was heard.
-fn copied_stores(alloc: Global, stores: &[Store]) -> Result<Vec<Store>, AllocError>
-    ensures { IfOk result (λ copies. copies.items ≡ stores.now) }
+// Stores in which the same was heard as in others.
+fn stores_again(mut stores: Vec<Store>, from: &[Store]) -> Result<Vec<Store>, AllocError>
+    requires { length stores.items ≡ length from.now }
+    ensures { IfOk result (λ copies. copies.items ≡ from.now) }
 {
-    let mut copies = Vec::with_capacity(alloc, stores.len())?;
-    for r in 0..stores.len() {
-        copies.push_reserved(stores[r].try_clone()?);
+    for r in 0..from.len() {
+        let store = from[r].try_clone()?;
+        stores[r] = store;
     }
-    Ok(copies)
+    Ok(stores)
 }

@@ -1,29 +1,34 @@
-use Rattle.nr_blockdesk.proofs.Common.{◌≡◌, ◌+◌, ◌++◌, ◌∷◌, [], Bool, List, length, length-append, take, ap}
-use Rattle.nr_blockdesk.proofs.Common.{refl, sym, ◌∙◌, arith, map-append, All-push, positions_of, kept_words}
-use Rattle.nr_blockdesk.proofs.Common.{peelers_of, CodeBlock}
+use Rattle.nr_blockdesk.proofs.Common.{◌≡◌, ◌+◌, ◌++◌, ◌∷◌, ◌<◌, [], Bool, List, length, length-set}
+use Rattle.nr_blockdesk.proofs.Common.{length-map, take, ap, arith, sym, ◌∙◌, CodeBlock, Peeling, get_or-map, kept_words}
+use Rattle.nr_blockdesk.proofs.Common.{map-set, peelers_of, set}
 use Rattle.nr_blockdesk.proofs.CopyFacts.{taken_more}
+use Rattle.std.proofs.lemmas.List.{set-get_or, take_more_set}
 use Rattle.nr_blockdesk.proofs.code_block.code_blocks_again.Goals as goal
 
--- one code block more
+-- one peeler more
 pub loop-r-preserved : goal.loop-r-preserved
 loop-r-preserved g c =
     let inv = c.loop-r.invariant in
-    let copies : List (CodeBlock g.row.K.Denot) = c.loop-r.copies.items in
-    let copy : CodeBlock g.row.K.Denot = c.in_ok-again.field-0 in
-    let blocks : List (CodeBlock g.row.K.Denot) = c.args.blocks.now in
-    let block : CodeBlock g.row.K.Denot = c.index-blocks-r.result in
+    let r = c.loop-r.r in
+    let blocks : List (CodeBlock g.row.K.Denot) = c.loop-r.blocks.items in
+    let from : List (CodeBlock g.row.K.Denot) = c.args.from.now in
+    let other : CodeBlock g.row.K.Denot = c.index-from-r.result in
+    let block : CodeBlock g.row.K.Denot = c.index_mut.result.now in
+    let with : CodeBlock g.row.K.Denot = c.know_as.new.self in
+    let peeler_in : CodeBlock g.row.K.Denot → Peeling = λ b. b.peeler in
+    let word_in : CodeBlock g.row.K.Denot → List Bool = λ b. b.word in
+    let below : r < length from = c.loop-r-test.true in
     record {
-      many = ap length c.push_reserved.ensures.items ∙ length-append copies (copy ∷ []) ∙ ap (λ n. n + 1) inv.many;
-      peelers = ap peelers_of c.push_reserved.ensures.items
-          ∙ map-append (λ (b : CodeBlock g.row.K.Denot). b.peeler) copies (copy ∷ [])
-          ∙ ap (λ xs. xs ++ copy.peeler ∷ []) inv.peelers
-          ∙ ap (λ p. peelers_of (take c.loop-r.r blocks) ++ p ∷ []) c.in_ok-again.ensures.peeler
-          ∙ sym (map-append (λ (b : CodeBlock g.row.K.Denot). b.peeler) (take c.loop-r.r blocks) (block ∷ []))
-          ∙ ap peelers_of (taken_more blocks c.loop-r.r block block c.index-blocks-r.is refl c.loop-r-test.true);
-      words = rw (c.push_reserved.ensures.items, map-append) (record {
-        many = length-append (kept_words copies) (copy.word ∷ []) ∙ ap (λ n. n + 1) inv.words.many;
-        long = All-push (λ (w : List Bool). length w ≡ positions_of c.args.plan.now)
-            (kept_words copies) copy.word inv.words.long c.in_ok-again.ensures.word;
-      });
-      room = omega (arith, inv.room, c.push_reserved.ensures.capacity);
+      many = length-set blocks r with ∙ inv.many;
+      peelers = ap (take (r + 1)) (map-set peeler_in blocks r with)
+          ∙ take_more_set (peelers_of blocks) r with.peeler (omega (arith, inv.many, below, length-map blocks peeler_in))
+          ∙ ap (λ xs. xs ++ with.peeler ∷ []) inv.peelers
+          ∙ taken_more (peelers_of from) r other.peeler with.peeler
+          (ap peeler_in c.index-from-r.is ∙ sym (get_or-map peeler_in from r other other.peeler below))
+          c.in_ok-know_as.ensures.peeler (omega (arith, below, length-map from peeler_in));
+      words = map-set word_in blocks r with
+          ∙ ap (set (kept_words blocks) r)
+          (c.in_ok-know_as.ensures.word ∙ ap word_in c.index_mut.ensures.value
+          ∙ sym (get_or-map word_in blocks r block block.word (omega (arith, inv.many, below))))
+          ∙ set-get_or (kept_words blocks) r block.word ∙ inv.words;
     }
