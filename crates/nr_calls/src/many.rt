@@ -17,7 +17,7 @@ use crate::fault::Fault;
 use crate::findings::{Found, Room};
 use crate::linking::link_on;
 use crate::plan::plan_on;
-use crate::receiving::{receive_again, receiver_over};
+use crate::receiving::{hear_all, receiver_again, receiver_over};
 use nr_blockdesk::{DeskFault, Settings};
 use nr_shifttable::Table;
 use std::alloc::Global;
@@ -107,7 +107,7 @@ fn receive_many(
 }
 
 // What is found of each block, by a shift table. All that a block's bits don't decide is judged before the first. All blocks
-// begin alike, so what the receiver of each begins with is made once.
+// begin alike, so the receiver of each is put back to one that is made once.
 #[tactic(auto, unfolding(crate::specs::Many::receive_many_by))]
 fn receive_many_by(
     alloc: Global,
@@ -140,11 +140,13 @@ fn receive_many_by(
         return Err(Fault::Desk(DeskFault::Length));
     }
     let link = link_on(table, settings, a)?;
+    let mut receiver = receiver_over(alloc, link.again())?;
     let first = &receiver_over(alloc, link)?;
     let mut found = Vec::with_capacity(alloc, room.count)?;
     for k in 0..room.count {
         let row = &octets[k * places..k * places + places];
-        found.push_reserved(receive_again(alloc, first, txs, row)?);
+        receiver = receiver_again(receiver, first)?;
+        found.push_reserved(hear_all(alloc, &mut receiver, txs, row)?);
     }
     Ok(ManyFound { each, found })
 }

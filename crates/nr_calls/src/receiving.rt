@@ -122,22 +122,17 @@ pub(crate) fn receive_over(
     hear_all(alloc, &mut receiver, txs, octets)
 }
 
-// What is found by a copy of a receiver that has received nothing yet. A copy costs less than a receiver that is made anew.
-pub(crate) fn receive_again(
-    alloc: Global,
-    first: &Receiver<'_, Unrecorded>,
-    txs: &[NrTx],
-    octets: &[u8],
-) -> Result<Found, Fault>
-    requires sound { IsLink first.now.link }
-    requires empty { IsRecordOf first.now.link [] first.now.heard }
-    ensures said { Gives Fault.Memory findings_of result (heard_said first.now.link [] txs.now octets.now) }
-    ensures outcomes { IfOk result (λ found. length found.outcomes.items ≡ length txs.now) }
-    ensures left { IfOk result (λ found. length found.left.items ≡ first.now.link.plan.c) }
-    ensures block { IfOk result (λ found. IsLastBlock first.now.link.a (verdict found.last)) }
+// A receiver that is put back to another one over its link, which has received nothing yet. Memory alone refuses it.
+pub(crate) fn receiver_again<'t>(
+    receiver: Receiver<'t, Unrecorded>,
+    first: &Receiver<'t, Unrecorded>,
+) -> Result<Receiver<'t, Unrecorded>, Fault>
+    requires { receiver.link ≡ first.now.link }
+    ensures same { IfOk result (λ receiver. receiver ≡ first.now) }
+    ensures err { IfErr result (λ fault. fault ≡ Fault.Memory) }
 {
-    match first.try_clone() {
-        Ok(mut receiver) => hear_all(alloc, &mut receiver, txs, octets),
+    match receiver.restored(first) {
+        Ok(receiver) => Ok(receiver),
         Err(_) => Err(Fault::Memory),
     }
 }
@@ -161,7 +156,7 @@ pub(crate) fn receiver_over<'t>(
 
 // What is found over some transmissions by a receiver that has received nothing yet. The places are those of one
 // transmission after the other.
-fn hear_all(
+pub(crate) fn hear_all(
     alloc: Global,
     receiver: &mut Receiver<'_, Unrecorded>,
     txs: &[NrTx],
@@ -169,6 +164,7 @@ fn hear_all(
 ) -> Result<Found, Fault>
     requires sound { IsLink receiver.old.link }
     requires empty { IsRecordOf receiver.old.link [] receiver.old.heard }
+    ensures link { receiver.new.link ≡ receiver.old.link }
     ensures said { Gives Fault.Memory findings_of result
         (heard_said receiver.old.link [] txs.now octets.now) }
     ensures outcomes { IfOk result (λ found. length found.outcomes.items ≡ length txs.now) }

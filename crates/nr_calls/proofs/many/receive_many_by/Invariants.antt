@@ -12,6 +12,7 @@ invariant-loop-k l = record {
   said : each_said (heard_said l.first.link [] l.txs) (take l.k (first_rows l.places l.fn.room.count l.octets))
       ≡ Ok (map findings_of l.found.items);
   many : length l.found.items ≡ l.k;
+  link : l.receiver.link ≡ l.first.link;
   room : vec_len l.found + l.fn.room.count ≤ vec_capacity l.found + l.k;
   filled : (k : ℕ) (d : Found) → k < length l.found.items → has_room l.each (findings_of (get_or l.found.items k d)) ≡ true;
 }
