@@ -1,4 +1,4 @@
-//! Receivers that go on from the stores of another one, and a copy, beside that one. The words are those of the practice table.
+//! Receivers that go on from the stores of another one, and one that is put back to it. The words are those of the practice table.
 
 ghost use Rattle.std.specs.Prelude.{◌≡◌, length, All, IsTrue};
 
@@ -126,15 +126,16 @@ fn hear_each(
     Ok(())
 }
 
-/// What a copy of a receiver answers.
-fn by_copy(receiver: &Receiver<'_>, tx: &Tx, places: &[Heard]) -> Answer {
-    match receiver.try_clone() {
-        Ok(mut copy) => taken(&mut copy, tx, places),
-        Err(fault) => Err(fault),
-    }
+/// What a receiver answers that has received something else before it is put back to this one.
+fn by_restored(alloc: Global, receiver: &Receiver<'_>, tx: &Tx, places: &[Heard]) -> Answer {
+    let mut other: Receiver<'_> = Receiver::over(alloc, receiver.link().again())?;
+    other.take(tx, places)?;
+    let mut restored = other.restored(receiver)?;
+    taken(&mut restored, tx, places)
 }
 
-/// What is answered to one more: by a receiver over the stores of this one, by `resume`, by a copy, and by this one.
+/// What is answered to one more by a receiver over the stores of this one and by `resume`. Then by one that is put back to this
+/// one, and by this one.
 fn answers_to(
     alloc: Global,
     table: &Table,
@@ -148,8 +149,8 @@ fn answers_to(
     let stores = all_copied(alloc, receiver.stores())?;
     let over = by_of_stores(alloc, receiver.link().again(), stores, &tx, &places);
     let resumed = by_marks(alloc, receiver, &tx, (heard, value))?;
-    let copy = by_copy(receiver, &tx, &places);
-    Ok([over, resumed, copy, taken(receiver, &tx, &places)])
+    let restored = by_restored(alloc, receiver, &tx, &places);
+    Ok([over, resumed, restored, taken(receiver, &tx, &places)])
 }
 
 /// What a receiver and those that go on from it answer to the last of these.
@@ -210,7 +211,7 @@ const CASES: [Case; 6] = [
     ),
 ];
 
-// `of_stores` and `take`, `resume` after `stores`, and `try_clone`: what they answer is what the receiver itself does.
+// `of_stores` and `take`, `resume` after `stores`, and `restored`: what they answer is what the receiver itself does.
 #[test]
 fn a_receiver_goes_on_from_kept_stores(rt: HostRuntime) -> Result<(), Fail> {
     for (all, want) in CASES {
