@@ -1,4 +1,5 @@
 -- Blocks that are kept as doubled lanes, as the list that they are seen as.
+use Rattle.std.proofs.Math.Nat.{mul-div_cancel}
 use Rattle.nr_lifting.proofs.Names.{GainsDoubled, bit_at, bit_at-zero, get_or-set_same, get_or_past, mod-eq_of_lt, mul-le-mul_right}
 use Rattle.nr_lifting.proofs.Names.{IsClear, block_bits, get_or_read, length-set, place-zeros, div-mul-add, mod-mul-add, AreDoubled}
 use Rattle.nr_lifting.proofs.Names.{IsDoubledLane, get_or-replicate, get_or-set_other, length-replicate, length-map-range_with_len}
@@ -97,6 +98,10 @@ module _ (z : ℕ) (some : 0 < z) where
 pub lanes_are : {W D z : ℕ} {mask : List ℕ} {blocks : List (List ℕ)} {v : BlockBits} → AreDoubled W D z mask blocks
     → block_bits z blocks ≡ v → z ≡ v.lanes
 lanes_are are e = ap (λ v. v.lanes) e
+
+-- as many places in blocks of one size are in as many blocks
+pub blocks_alike : (m n z : ℕ) → 0 < z → m * z ≡ n * z → m ≡ n
+blocks_alike m n z some same = sym (mul-div_cancel m some) ∙ ap (λ k. k / z) same ∙ mul-div_cancel n some
 
 -- if the view has a block or a bit, there is a doubled lane; and what is read there
 pub block_within : {W D z : ℕ} {mask : List ℕ} {blocks : List (List ℕ)} {v : BlockBits} → AreDoubled W D z mask blocks

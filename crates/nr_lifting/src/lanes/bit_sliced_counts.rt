@@ -101,20 +101,13 @@ impl<const P: usize, const W: usize> BitSlicedCounts<P, W> {
         Ok(BitSlicedCounts { size, mask, blocks })
     }
 
-    /// Blocks of their own with these counts.
-    ///
-    /// # Errors
-    ///
-    /// `AllocError` if memory runs out.
-    pub fn try_clone(&self) -> Result<BitSlicedCounts<P, W>, AllocError>
-        ensures { IfOk result (λ r. r ≡ self.now) }
+    /// Takes the counts of other blocks, which are as many and of the same size. Takes no memory.
+    pub fn copy_from(&mut self, from: &BitSlicedCounts<P, W>)
+        requires lanes { self.old.lanes ≡ from.now.lanes }
+        requires long { length self.old.items ≡ length from.now.items }
+        ensures { self.new ≡ from.now }
     {
-        let blocks = Vec::from_slice(*self.blocks.allocator(), &self.blocks)?;
-        Ok(BitSlicedCounts {
-            size: self.size,
-            mask: self.mask,
-            blocks,
-        })
+        self.blocks.copy_from_slice(&from.blocks);
     }
 
     /// Marks those counts of block `i` that are exactly one.

@@ -205,20 +205,13 @@ impl<const W: usize, const D: usize> DoubledLanes<W, D> {
         Ok(DoubledLanes { size, mask, blocks })
     }
 
-    /// Blocks of their own with these bits.
-    ///
-    /// # Errors
-    ///
-    /// `AllocError` if memory runs out.
-    pub fn try_clone(&self) -> Result<DoubledLanes<W, D>, AllocError>
-        ensures { IfOk result (λ r. r ≡ self.now) }
+    /// Takes the bits of other blocks, which are as many and of the same size. Takes no memory.
+    pub fn copy_from(&mut self, from: &DoubledLanes<W, D>)
+        requires lanes { self.old.lanes ≡ from.now.lanes }
+        requires long { length self.old.items ≡ length from.now.items }
+        ensures { self.new ≡ from.now }
     {
-        let blocks = Vec::from_slice(*self.blocks.allocator(), &self.blocks)?;
-        Ok(DoubledLanes {
-            size: self.size,
-            mask: self.mask,
-            blocks,
-        })
+        self.blocks.copy_from_slice(&from.blocks);
     }
 
     /// One bit of all.
