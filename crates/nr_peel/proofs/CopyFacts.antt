@@ -1,7 +1,10 @@
 -- A copy of a sweep is settled where the sweep is.
 use Rattle.nr_peel.proofs.Common.{◌≡◌, ℕ, arith, bit, refl, Checks, Progress, Sweep}
 use Rattle.nr_peel.proofs.Common.{AreLanes, AreSeen, CountsUnseen, IsHeld, IsSettled, Reaches, lifted_checks}
-use Rattle.nr_peel.specs.inside.Copies.{IsSameProgress, IsSameSeen, Serves}
+use Rattle.nr_peel.proofs.Common.{AnySweep, IsAnySettled, Lifted, Peeling, any_view, ap, length, sym, ◌∙◌}
+use Rattle.nr_peel.specs.inside.Copies.{AnySweepsFit, IsAnyHeld, IsSameProgress, IsSameSeen, Serves}
+use Rattle.nr_peel.specs.Peeling.{checks_for}
+use Rattle.nr_peel.specs.declared.any_sweep.AnySweep.TheVariants as variant
 
 module _ {W D : ℕ} (c : Checks) (a b : Sweep W D) (known : b.lanes.known ≡ a.lanes.known) (bits : b.lanes.bits ≡ a.lanes.bits)
     (seen : IsSameSeen a.lanes.seen b.lanes.seen) (counts : b.counts ≡ a.counts) where
@@ -9,6 +12,7 @@ module _ {W D : ℕ} (c : Checks) (a b : Sweep W D) (known : b.lanes.known ≡ a
   seen_copied are = record {
     starts = rw seen.starts are.starts;
     enough = rw (seen.starts, seen.lanes) are.enough;
+    long = rw seen.lanes are.long;
     within = rw (known, seen.starts, seen.lanes) are.within;
     fresh = rw (known, seen.stale, seen.starts, seen.lanes) are.fresh;
     holders = rw seen.holders are.holders;
@@ -27,6 +31,7 @@ module _ {W D : ℕ} (c : Checks) (a b : Sweep W D) (known : b.lanes.known ≡ a
     seen = seen_copied are.seen;
     words = are.words;
     short = are.short;
+    fit = are.fit;
   }
 
   counted_copied : CountsUnseen c a.lanes.seen a.counts.items → CountsUnseen c b.lanes.seen b.counts.items
@@ -71,3 +76,31 @@ sweep_serves a b known bits seen counts l p q same is =
       left = rw (same.left, known) is.left;
     } in
     (settled, rw (same.given, same.steps, same.kept, same.touches, known, bits, counts) refl)
+
+-- a settled sweep is one of the code
+any_held : (l : Lifted) (p : Progress) (s : AnySweep) → IsAnySettled l p s → IsAnyHeld (lifted_checks l) s
+any_held l p (variant.One s) is = (p, is.held)
+any_held l p (variant.Two s) is = (p, is.held)
+any_held l p (variant.Three s) is = (p, is.held)
+any_held l p (variant.Four s) is = (p, is.held)
+any_held l p (variant.Six s) is = (p, is.held)
+
+given_long : (l : Lifted) (p : Progress) (s : AnySweep) → IsAnySettled l p s
+    → length p.given.items ≡ (lifted_checks l).size
+given_long l p (variant.One s) is = is.given_long
+given_long l p (variant.Two s) is = is.given_long
+given_long l p (variant.Three s) is = is.given_long
+given_long l p (variant.Four s) is = is.given_long
+given_long l p (variant.Six s) is = is.given_long
+
+-- two peelers of one code
+module _ (l m : Lifted) (p q : Progress) (s t : AnySweep) (a b : Peeling) (own : any_view l p s ≡ a)
+    (other : any_view m q t ≡ b) (same : checks_for a ≡ checks_for b) (is : IsAnySettled l p s) (are : IsAnySettled m q t) where
+  checks_alike : lifted_checks l ≡ lifted_checks m
+  checks_alike = ap checks_for own ∙ same ∙ sym (ap checks_for other)
+
+  pub given_alike : length p.given.items ≡ length q.given.items
+  given_alike = given_long l p s is ∙ ap (λ c. c.size) checks_alike ∙ sym (given_long m q t are)
+
+  pub fits_any : AnySweepsFit s t
+  fits_any = (lifted_checks l, any_held l p s is, rw checks_alike (any_held m q t are))

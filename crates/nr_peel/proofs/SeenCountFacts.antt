@@ -255,6 +255,7 @@ module _
     starts = rw news.looked.starts w.lanes.seen.starts;
     enough = rw (news.looked.starts, news.lanes)
         (omega (arith, length-set now.seen.lanes.items (slice_index now.seen.starts i + k) lane, w.lanes.seen.enough));
+    long = rw news.lanes (length-set now.seen.lanes.items (slice_index now.seen.starts i + k) lane ∙ w.lanes.seen.long);
     within = λ h t m hr tl ml.
         grind (arith, cases_eq h i, cases_eq m k, here t, news.known t, others h m t hr ml, w.lanes.seen.within h t m hr tl ml);
     fresh = λ h t m hr tl ml. grind (arith, cases_eq h i, cases_eq m k, here t, news.known t, seen_is h m t hr tl ml);

@@ -6,6 +6,8 @@ use Rattle.nr_peel.proofs.Common.{cases_eq, cases_lt, get_or-replicate, get_or-s
 use Rattle.nr_peel.proofs.Common.{length-replicate, place-zeros, is_set, entries_in, row_of, value_in, one_at, lifted_checks, Entry}
 use Rattle.nr_peel.proofs.Common.{Lifted, false≢true, HasLooked, HasSeenNone, has_seen, SeenLanes, bit_not, get_or-replicate_same}
 use Rattle.nr_peel.proofs.Common.{sym, ap, ◌∙◌, arith, slice_index, bit, bit_at, bit_and, w64, bit_at_ones, bit_at-zero}
+use Rattle.nr_peel.proofs.Common.{sum_below, suc, zero}
+use Rattle.nr_peel.specs.inside.Seen.{entry_count}
 use Rattle.nr_peel.proofs.RowEntryFacts.{column_at, row_long}
 use Rattle.std.proofs.lemmas.{Nat.Bits.bit_at_or, Nat.Bits.bit_at_clear_other, Nat.Bits.bit_at_clear_same, List.Elements.All-get_or}
 use Rattle.nr_lifting.proofs.DoubledLaneFacts.{is_set-nil}
@@ -96,15 +98,34 @@ pub all_rows : (W z : ℕ) (all : List ℕ) → z ≤ 64 * W → length all ≡ 
     → ((t : ℕ) → t < 64 * W → is_set all t ≡ nat_lt t z) → (t : ℕ) → is_set all t ≡ nat_lt t z
 all_rows W z all few long words t = grind (arith, nat_tests, cases_lt t (64 * W), get_or_past, bit_at-zero, words t)
 
+-- a row block's entries begin behind all those of the row blocks before it
+starts_sum : (l : Lifted) (starts : List ℕ) → slice_index starts 0 ≡ 0
+    → ((i : ℕ) → i < (lifted_checks l).rows
+    → slice_index starts i + length (row_of (entries_in l.plan.graph l.table.now) i) ≡ slice_index starts (i + 1))
+    → (n : ℕ) → n ≤ (lifted_checks l).rows
+    → slice_index starts n ≡ sum_below (λ i. length ((lifted_checks l).row i 0)) n
+starts_sum l starts first each zero few = first
+starts_sum l starts first each (suc n) few =
+    let next : slice_index starts (suc n) ≡ slice_index starts n + length (row_of (entries_in l.plan.graph l.table.now) n) =
+    ap (slice_index starts) {x = suc n} {y = n + 1} (omega arith) ∙ sym (each n few) in
+    omega (arith, next, starts_sum l starts first each n (omega (arith, few)), row_long l n 0)
+
+starts_last : (l : Lifted) (starts : List ℕ) → slice_index starts 0 ≡ 0
+    → ((i : ℕ) → i < (lifted_checks l).rows
+    → slice_index starts i + length (row_of (entries_in l.plan.graph l.table.now) i) ≡ slice_index starts (i + 1))
+    → slice_index starts (lifted_checks l).rows ≡ entry_count (lifted_checks l)
+unfolding entry_count
+starts_last l starts first each = starts_sum l starts first each (lifted_checks l).rows (omega arith)
+
 -- at first the counts know of nothing
 pub seen_none : {W : ℕ} → (l : Lifted) (s : SeenLanes W) (n : ℕ) → s.lanes.items ≡ replicate n (replicate W 0)
-    → slice_index s.starts (lifted_checks l).rows ≤ n
+    → slice_index s.starts (lifted_checks l).rows ≡ n → slice_index s.starts 0 ≡ 0
     → ((i : ℕ) → i < (lifted_checks l).rows
     → slice_index s.starts i + length (row_of (entries_in l.plan.graph l.table.now) i) ≡ slice_index s.starts (i + 1))
     → ((i : ℕ) → i < (lifted_checks l).rows → All (is_held s.holders i) (row_of (entries_in l.plan.graph l.table.now) i))
     → s.stale ≡ replicate 68 0 → s.whole ≡ replicate 68 false → ((t : ℕ) → is_set s.all t ≡ nat_lt t l.plan.z)
     → HasSeenNone (lifted_checks l) s
-seen_none {W} l s n made fits starts holders stale whole all =
+seen_none {W} l s n made is first starts holders stale whole all =
     let c = lifted_checks l in
     let none : (i k t : ℕ) → has_seen s i k t ≡ false = λ i k t. rw made (zero_seen W n (slice_index s.starts i + k) t) in
     record {
@@ -116,7 +137,9 @@ seen_none {W} l s n made fits starts holders stale whole all =
           length-map (row_of (entries_in l.plan.graph l.table.now) i)
               (λ (x : Entry). one_at l.plan.z t x.col (value_in l.plan.set x)),
         );
-        enough = omega (arith, fits, ap length made, length-replicate n (replicate {A = ℕ} W 0));
+        enough = omega (arith, is, ap length made, length-replicate n (replicate {A = ℕ} W 0));
+        long = ap length made ∙ length-replicate n (replicate {A = ℕ} W 0) ∙ sym is
+            ∙ starts_last l s.starts first starts;
         within = λ i t k _ _ _ seen. absurd (false≢true (sym (none i k t) ∙ seen));
         fresh = λ i t k _ _ _ _. none i k t ∙ sym (unknown (slice_index (c.row i t) k));
         holders = λ i t k ir tl kl.

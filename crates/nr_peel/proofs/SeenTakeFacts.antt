@@ -99,6 +99,7 @@ module _ {W D : ℕ} (l : Lifted) (i k : ℕ) (ones sums : List ℕ) (a d : Lane
   seen_still = record {
     starts = rw took.seen.starts lanes.seen.starts;
     enough = rw (took.seen.starts, took.seen.long) lanes.seen.enough;
+    long = took.seen.long ∙ lanes.seen.long;
     within = λ h t m hr below ml.
         seen_known _ _ ((i == h) && (k == m)) (u t) (bit a.known.items (row_position c h t m)) _ (seen_next h m t hr ml)
         (lanes.seen.within h t m hr below ml) (known_still (row_position c h t m))

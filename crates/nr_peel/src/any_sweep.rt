@@ -7,7 +7,7 @@ ghost use Rattle.nr_shifttable.specs.Accepted.{IsTable};
 ghost use Rattle.nr_segment.specs.CodeBlock.{numbers};
 ghost use Rattle.nr_peel.specs.{inside.Learning.IsAnySettled, inside.Learning.Learns, Peeling.IsStarted, Peeling.gained_in};
 ghost use Rattle.nr_peel.specs.{inside.Starts.HasBegun, State.any_bits, State.any_known, State.any_view};
-ghost use Rattle.nr_peel.specs.inside.{Copies.ServesAny, State.lifted_checks};
+ghost use Rattle.nr_peel.specs.inside.{Copies.AnySweepsFit, Copies.ServesAny, State.lifted_checks};
 
 use crate::bit_parallel::sweep::Sweep;
 use crate::lifted::Lifted;
@@ -28,6 +28,7 @@ pub(crate) enum AnySweep {
 
 impl AnySweep {
     // The fillers alone are given, as zeros.
+    #[tactic(auto, unfolding(crate::specs::inside::Sweeps::lane_words))]
     pub(crate) fn new(
         alloc: Global,
         lifted: &Lifted<'_>,
@@ -49,17 +50,20 @@ impl AnySweep {
         })
     }
 
-    // A copy, which serves as well.
-    pub(crate) fn try_clone(&self) -> Result<AnySweep, AllocError>
-        ensures { IfOk result (ServesAny self.now) }
+    // Becomes as another sweep of the code, and serves as well.
+    pub(crate) fn copy_from(&mut self, from: &AnySweep)
+        requires { AnySweepsFit self.old from.now }
+        ensures { ServesAny from.now self.new }
     {
-        Ok(match self {
-            AnySweep::One(sweep) => AnySweep::One(sweep.try_clone()?),
-            AnySweep::Two(sweep) => AnySweep::Two(sweep.try_clone()?),
-            AnySweep::Three(sweep) => AnySweep::Three(sweep.try_clone()?),
-            AnySweep::Four(sweep) => AnySweep::Four(sweep.try_clone()?),
-            AnySweep::Six(sweep) => AnySweep::Six(sweep.try_clone()?),
-        })
+        match (self, from) {
+            (AnySweep::One(sweep), AnySweep::One(from)) => sweep.copy_from(from),
+            (AnySweep::Two(sweep), AnySweep::Two(from)) => sweep.copy_from(from),
+            (AnySweep::Three(sweep), AnySweep::Three(from)) => sweep.copy_from(from),
+            (AnySweep::Four(sweep), AnySweep::Four(from)) => sweep.copy_from(from),
+            (AnySweep::Six(sweep), AnySweep::Six(from)) => sweep.copy_from(from),
+            // The lifting size decides how many words a lane takes.
+            _ => unreachable!(),
+        }
     }
 
     // Positions are given: those that weren't known take their bits.

@@ -1,7 +1,8 @@
 //! The peeler of one code block.
 
 ghost use Rattle.std.specs.Prelude.{◌≡◌, ℕ, ◌+◌, ◌<◌, ◌≤◌, ◌↔◌, ◌==◌, false, true, unwrap_or, IfOk};
-ghost use Rattle.std.specs.{Prelude.IsErrOf, Prelude.length, Prelude.slice_set, Prelude.take, Int.bit_at};
+ghost use Rattle.std.specs.Prelude.{IsErrOf, OnErr, OnOk, length, slice_set, take};
+ghost use Rattle.std.specs.Int.{bit_at};
 ghost use Rattle.nr_bitvec.specs.Bit.{bit};
 ghost use Rattle.nr_segment.specs.CodeBlock.{numbers};
 ghost use Rattle.nr_shifttable.specs.Accepted.{has_graph};
@@ -161,23 +162,21 @@ impl<'t, K: Recording> Peeler<'t, K> {
         })
     }
 
-    /// A peeler of its own that was given the same, and knows the same by the same steps. No row is swept, so this costs less than
-    /// `start` and what it was given since.
+    /// Becomes equal to another peeler of the same code, and keeps its own memory. No row is swept, so this costs less than
+    /// `start` and what the other one was given since. If no steps are recorded it takes no memory.
     ///
     /// # Errors
     ///
-    /// `AllocError` means that memory ran out.
-    pub fn try_clone(&self) -> Result<Peeler<'t, K>, AllocError>
-        ensures { IfOk result (λ s. s ≡ self.now) }
+    /// `AllocError` means that memory ran out. Nothing has changed then.
+    pub fn copy_from(&mut self, from: &Peeler<'t, K>) -> Result<(), AllocError>
+        requires { checks_for self.old ≡ checks_for from.now }
+        ensures same { OnOk result (self.new ≡ from.now) }
+        ensures err { OnErr result (self.new ≡ self.old) }
     {
-        let progress = self.progress.try_clone()?;
-        let sweep = self.sweep.try_clone()?;
-        Ok(Peeler {
-            lifted: self.lifted,
-            progress,
-            sweep,
-            recording: PhantomData,
-        })
+        self.progress.copy_from(&from.progress)?;
+        self.sweep.copy_from(&from.sweep);
+        self.lifted = from.lifted;
+        Ok(())
     }
 
     /// Gives a position, which takes the bit if it was not known, and fixes all that follows. Takes no memory. Many

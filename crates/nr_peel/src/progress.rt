@@ -1,6 +1,6 @@
 //! What a peeler was given and what it did, whatever number of words its lanes take.
 
-ghost use Rattle.std.specs.Prelude.{◌≡◌, ◌+◌, ◌<◌, ◌^◌, IfOk};
+ghost use Rattle.std.specs.Prelude.{◌≡◌, ◌+◌, ◌<◌, ◌^◌, IfOk, OnErr, OnOk, length};
 ghost use Rattle.nr_segment.specs.CodeBlock.{numbers};
 ghost use Rattle.nr_peel.specs.{Peeling.fillers, inside.Copies.IsSameProgress, inside.Starts.HasBegun};
 ghost use Rattle.nr_peel.specs.inside.State.{lifted_checks};
@@ -54,18 +54,18 @@ impl Progress {
         })
     }
 
-    // A copy, with room for as many steps.
-    pub(crate) fn try_clone(&self) -> Result<Progress, AllocError>
-        ensures { IfOk result (IsSameProgress self.now) }
+    // The same was given and done as by another peeler of the code. There is room for as many steps.
+    pub(crate) fn copy_from(&mut self, from: &Progress) -> Result<(), AllocError>
+        requires { length self.old.given.items ≡ length from.now.given.items }
+        ensures same { OnOk result (IsSameProgress from.now self.new) }
+        ensures err { OnErr result (self.new ≡ self.old) }
     {
-        let given = self.given.try_clone()?;
-        let order = self.order.try_clone()?;
-        Ok(Progress {
-            given,
-            left: self.left,
-            order,
-            touches: self.touches,
-        })
+        self.order = from.order.try_clone()?;
+        self.given.zero();
+        self.given.union_with(&from.given);
+        self.left = from.left;
+        self.touches = from.touches;
+        Ok(())
     }
 
     // Counts visits of a row and a position of it. No other function raises the count.

@@ -35,12 +35,17 @@ unseen c s i t = sum_below (λ k. if has_seen s i k t then 0 else 1) (length (c.
 abbrev pub CountsUnseen : {W : ℕ} → Checks → SeenLanes W → List ℕ → Type 0
 CountsUnseen c s counts = (i t : ℕ) → i < c.rows → t < c.lanes → slice_index counts (i * c.lanes + t) ≡ unseen c s i t
 
+-- how many entries all row blocks have
+unfoldable pub entry_count : Checks → ℕ
+entry_count c = sum_below (λ i. length (c.row i 0)) c.rows
+
 -- Each entry has a lane, and its row block holds its column. The counts know only of known positions, and of all in a
 -- column that needs no look. A row block that has caught up needs none at all. A column that became known at once is
 -- known.
 pub record AreSeen {W : ℕ} (c : Checks) (known : List Bool) (s : SeenLanes W) : Type 0 where
   pub starts : (i t : ℕ) → i < c.rows → slice_index s.starts i + length (c.row i t) ≤ slice_index s.starts (i + 1)
   pub enough : slice_index s.starts c.rows ≤ length s.lanes.items
+  pub long : length s.lanes.items ≡ entry_count c
   pub within : (i t k : ℕ) → i < c.rows → t < c.lanes → k < length (c.row i t) → has_seen s i k t ≡ true
       → bit known (row_position c i t k) ≡ true
   pub fresh : (i t k : ℕ) → i < c.rows → t < c.lanes → k < length (c.row i t)

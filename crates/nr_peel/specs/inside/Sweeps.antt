@@ -1,6 +1,7 @@
 -- How rows fix positions and counts follow, all rows of the code a round.
 use Rattle.std.specs.Prelude.{◌≡◌, ℕ, ◌+◌, ◌*◌, ◌<◌, ◌≤◌, ◌==◌, ◌||◌, Bool, true, false, not}
-use Rattle.std.specs.Prelude.{if◌then◌else◌, List, length, count_by, slice_index}
+use Rattle.std.specs.Prelude.{nat_lt, if◌then◌else◌, List, length, count_by, slice_index}
+use Rattle.std.specs.Int.{div_ceil}
 use Rattle.nr_bitvec.specs.Bit.{bit}
 use Rattle.nr_lifting.specs.DoubledLanes.{is_set, marked_count}
 use Rattle.nr_ldpcenc.specs.Rows.{Checks, Meets}
@@ -31,6 +32,10 @@ searched_below c u n = sum_below (λ k. if u k then row_length c k else 0) n
 unfoldable pub searched_pairs : Checks → (ℕ → Bool) → ℕ
 searched_pairs c u = searched_below c u (c.rows * c.lanes)
 
+-- how many words a lane takes at a lifting size: the least that hold it, but six for five
+unfoldable pub lane_words : ℕ → ℕ
+lane_words z = if nat_lt 4 (div_ceil z 64) then 6 else div_ceil z 64
+
 -- each list has a place for each position; unknown positions have no bit, and the counts know only of known ones
 pub record AreLanes {W D : ℕ} (c : Checks) (s : Lanes W D) : Type 0 where
   pub known_long : length s.known.items ≡ c.size
@@ -41,6 +46,7 @@ pub record AreLanes {W D : ℕ} (c : Checks) (s : Lanes W D) : Type 0 where
   pub seen : AreSeen c s.known.items s.seen
   pub words : W ≤ 6
   pub short : c.lanes ≤ 64 * W
+  pub fit : W ≡ lane_words c.lanes
 
 -- Steps fixed positions that weren't known. They are accepted, in turn, from any set that has the positions of K. Each
 -- word that meets every row and had the known bits still has them.

@@ -3,9 +3,9 @@
 ghost use Rattle.std.specs.Prelude.{◌≡◌, ◌+◌, ◌-◌, ◌*◌, ◌%◌, ◌^◌, ◌<◌, ◌≤◌, ◌==◌, ◌||◌};
 ghost use Rattle.std.specs.Prelude.{ℕ, if◌then◌else◌, All, not, IfOk, count_by, false, length, slice_index, take, true};
 ghost use Rattle.nr_peel.specs.inside.{Certificates.HasRoom, Due.work_of, Lanes.TakesLane, Lanes.lacks, Starts.AreBlank};
-ghost use Rattle.nr_peel.specs.inside.{Copies.IsSameSeen, Seen.NeedsNoLook, Seen.has_seen, State.lifted_checks};
+ghost use Rattle.nr_peel.specs.inside.{Copies.IsSameSeen, Copies.LanesFit, Seen.NeedsNoLook, Seen.has_seen, State.lifted_checks};
 ghost use Rattle.nr_peel.specs.inside.{Searches.may_wait, Sweeps.AreLanes, Sweeps.BlockCountsOf, Sweeps.IsBlockSought};
-ghost use Rattle.nr_peel.specs.inside.Sweeps.{has_count};
+ghost use Rattle.nr_peel.specs.inside.Sweeps.{has_count, lane_words};
 ghost use Rattle.nr_bitvec.specs.{Bit.bit, Packed.IsClear};
 ghost use Rattle.nr_lifting.specs.DoubledLanes.{is_set, marked_count};
 ghost use Rattle.nr_shifttable.specs.{Accepted.IsTable, Accepted.entries_in, Tails.row_of, Tails.value_in};
@@ -64,6 +64,7 @@ impl<const W: usize, const D: usize> Lanes<W, D> {
         requires words { W ≤ 6 }
         requires short { lifted.now.plan.z ≤ 64 * W }
         requires twice { D ≡ 2 * W }
+        requires fit { W ≡ lane_words lifted.now.plan.z }
         ensures { IfOk result (AreBlank (lifted_checks lifted.now)) }
     {
         let size = lifted.plan.z as usize;
@@ -74,16 +75,16 @@ impl<const W: usize, const D: usize> Lanes<W, D> {
         Ok(Lanes { known, bits, seen })
     }
 
-    // A copy: the same is known, and the counts know of the same.
-    pub(crate) fn try_clone(&self) -> Result<Lanes<W, D>, AllocError>
-        ensures known { IfOk result (λ s. s.known ≡ self.now.known) }
-        ensures bits { IfOk result (λ s. s.bits ≡ self.now.bits) }
-        ensures seen { IfOk result (λ s. IsSameSeen self.now.seen s.seen) }
+    // The same is known as by another peeler of the code, and the counts know of the same.
+    pub(crate) fn copy_from(&mut self, from: &Lanes<W, D>)
+        requires { LanesFit self.old from.now }
+        ensures known { self.new.known ≡ from.now.known }
+        ensures bits { self.new.bits ≡ from.now.bits }
+        ensures seen { IsSameSeen from.now.seen self.new.seen }
     {
-        let known = self.known.try_clone()?;
-        let bits = self.bits.try_clone()?;
-        let seen = self.seen.try_clone()?;
-        Ok(Lanes { known, bits, seen })
+        self.known.copy_from(&from.known);
+        self.bits.copy_from(&from.bits);
+        self.seen.copy_from(&from.seen);
     }
 
     // The rows of a lane fix the positions of the block of entry `k` of row block `i` that aren't known, to each row's sum.

@@ -6,7 +6,7 @@ ghost use Rattle.nr_bitvec.specs.{Bit.bit, Packed.IsClear};
 ghost use Rattle.nr_lifting.specs.DoubledLanes.{is_set};
 ghost use Rattle.nr_segment.specs.CodeBlock.{numbers};
 ghost use Rattle.nr_peel.specs.{inside.Giving.GivesPositions, Peeling.fillers, Peeling.IsStarted, Peeling.left_of};
-ghost use Rattle.nr_peel.specs.inside.{State.lifted_checks, State.sweep_view, Sweeps.AreLanes, Starts.HasBegun};
+ghost use Rattle.nr_peel.specs.inside.{State.lifted_checks, State.sweep_view, Sweeps.AreLanes, Sweeps.lane_words, Starts.HasBegun};
 ghost use Rattle.nr_peel.specs.inside.{Learning.IsSettled, Learning.Learns, Searches.IsDone, Settled.IsHeld, Settled.Keeps};
 ghost use Rattle.nr_shifttable.specs.Accepted.{IsTable};
 
@@ -116,6 +116,7 @@ impl<const W: usize, const D: usize> Sweep<W, D> {
         requires words { W ≤ 6 }
         requires short { lifted.now.plan.z ≤ 64 * W }
         requires twice { D ≡ 2 * W }
+        requires fit { W ≡ lane_words lifted.now.plan.z }
         requires begun { HasBegun (lifted_checks lifted.now) (numbers lifted.now.plan) progress.old }
         ensures settled { IfOk result (IsSettled lifted.now progress.new) }
         ensures kept { IfOk result (λ s. progress.new.order.kept ≡ progress.old.order.kept) }

@@ -53,16 +53,15 @@ impl<const W: usize> RowCounts<W> {
         }
     }
 
-    // A copy of the counts.
-    pub(crate) fn try_clone(&self) -> Result<RowCounts<W>, AllocError>
-        ensures { IfOk result (λ counts. counts ≡ self.now) }
+    // Takes the counts of as many other rows.
+    pub(crate) fn copy_from(&mut self, from: &RowCounts<W>)
+        requires lanes { self.old.lanes ≡ from.now.lanes }
+        requires long { length self.old.items ≡ length from.now.items }
+        ensures { self.new ≡ from.now }
     {
-        let planes = self.planes.try_clone()?;
-        Ok(RowCounts {
-            planes,
-            due: self.due,
-            operations: self.operations,
-        })
+        self.planes.copy_from(&from.planes);
+        self.due = from.due;
+        self.operations = from.operations;
     }
 
     // Takes one off those counts of row block `i` that a lane marks. None of them is 0. The row block is due then. If all

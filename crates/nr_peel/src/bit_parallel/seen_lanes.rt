@@ -83,21 +83,19 @@ impl<const W: usize> SeenLanes<W> {
         })
     }
 
-    // The counts of a copy know of the same.
-    pub(crate) fn try_clone(&self) -> Result<SeenLanes<W>, AllocError>
-        ensures { IfOk result (IsSameSeen self.now) }
+    // The counts know of what those of another peeler of the code do.
+    pub(crate) fn copy_from(&mut self, from: &SeenLanes<W>)
+        requires { length self.old.lanes.items ≡ length from.now.lanes.items }
+        ensures { IsSameSeen from.now self.new }
     {
-        let lanes = Vec::from_slice(*self.lanes.allocator(), &self.lanes)?;
-        Ok(SeenLanes {
-            lanes,
-            starts: self.starts,
-            holders: self.holders,
-            stale: self.stale,
-            begun: self.begun,
-            whole: self.whole,
-            behind: self.behind,
-            all: self.all,
-        })
+        self.lanes.copy_from_slice(&from.lanes);
+        self.starts = from.starts;
+        self.holders = from.holders;
+        self.stale = from.stale;
+        self.begun = from.begun;
+        self.whole = from.whole;
+        self.behind = from.behind;
+        self.all = from.all;
     }
 
     // Whether any position of a column ever became known.

@@ -3,7 +3,8 @@
 ghost use Rattle.std.specs.Prelude.{◌≡◌, ◌*◌, ◌<◌, ◌≤◌, ℕ, IfOk, length, slice_index};
 ghost use Rattle.nr_shifttable.specs.{Accepted.IsTable, Accepted.entries_in, Tails.row_of};
 ghost use Rattle.nr_peel.specs.inside.{Settled.IsHeld, Settled.Keeps, Searches.IsDone, Searches.Passes, Searches.Visits};
-ghost use Rattle.nr_peel.specs.inside.{Copies.Serves, Starts.IsBlankSweep, State.lifted_checks};
+ghost use Rattle.nr_peel.specs.inside.{Copies.Serves, Copies.SweepsFit, Starts.IsBlankSweep, State.lifted_checks};
+ghost use Rattle.nr_peel.specs.inside.Sweeps.{lane_words};
 
 use crate::bit_parallel::lanes::Lanes;
 use crate::bit_parallel::row_counts::RowCounts;
@@ -40,6 +41,7 @@ impl<const W: usize, const D: usize> Sweep<W, D> {
         requires words { W ≤ 6 }
         requires short { lifted.now.plan.z ≤ 64 * W }
         requires twice { D ≡ 2 * W }
+        requires fit { W ≡ lane_words lifted.now.plan.z }
         ensures { IfOk result (IsBlankSweep (lifted_checks lifted.now)) }
     {
         let lanes = Lanes::new(alloc, lifted)?;
@@ -50,13 +52,13 @@ impl<const W: usize, const D: usize> Sweep<W, D> {
         Ok(Sweep { lanes, counts })
     }
 
-    // A copy, which serves as well.
-    pub(crate) fn try_clone(&self) -> Result<Sweep<W, D>, AllocError>
-        ensures { IfOk result (Serves self.now) }
+    // Becomes as another sweep of the code, and serves as well.
+    pub(crate) fn copy_from(&mut self, from: &Sweep<W, D>)
+        requires { SweepsFit self.old from.now }
+        ensures { Serves from.now self.new }
     {
-        let lanes = self.lanes.try_clone()?;
-        let counts = self.counts.try_clone()?;
-        Ok(Sweep { lanes, counts })
+        self.lanes.copy_from(&from.lanes);
+        self.counts.copy_from(&from.counts);
     }
 
     // Row block `i` has its turn. Its counts catch up, each row with a count of one fixes its position, and the counts fall by

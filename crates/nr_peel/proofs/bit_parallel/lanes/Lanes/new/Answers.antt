@@ -17,6 +17,7 @@ returns g c =
         seen = c.in_ok-seen.ensures.seen c.in_ok-known.known.items unknown;
         words = c.requires.words;
         short = c.requires.short;
+        fit = c.requires.fit;
       };
       unknown = unknown;
       none_seen = c.in_ok-seen.ensures;

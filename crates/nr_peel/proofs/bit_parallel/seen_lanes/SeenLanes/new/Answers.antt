@@ -1,4 +1,5 @@
-use Rattle.nr_peel.proofs.Common.{nat_tests, ℕ, refl, ◌≡◌, arith, cases_eq, get_or-set_other, get_or-set_same}
+use Rattle.nr_peel.proofs.Common.{nat_tests, ℕ, refl, length, ◌<◌, ◌∙◌, ◌≡◌}
+use Rattle.nr_peel.proofs.Common.{arith, cases_eq, get_or-set_other, get_or-set_same}
 use Rattle.nr_peel.proofs.{Common.length-replicate, Common.length-set, Common.replicate, TableGridFacts.rows_short}
 use Rattle.nr_peel.proofs.SeenLaneFacts.{all_next, all_rows, seen_none}
 use Rattle.nr_lifting.proofs.DoubledLaneFacts.{cloned}
@@ -23,7 +24,15 @@ loop-i-preserved g c = grind (
 
 -- one more word of the lane of all rows
 pub loop-i-2-preserved : goal.loop-i-2-preserved
-loop-i-2-preserved g c = grind (arith, length-set, all_next)
+loop-i-2-preserved g c =
+    let inv = c.loop-i-2.invariant in
+    let size = c.saturating_sub.ensures in
+    let inside : c.loop-i-2.i < length c.loop-i-2.all = omega (arith, inv.long, c.loop-i-2-test.true) in
+    record {
+      words = all_next c.args.lifted.now.plan.z c.loop-i-2.i c.low_bits.result c.loop-i-2.all inside inv.words
+          (rw size at c.low_bits.ensures.low) (rw size at c.low_bits.ensures.high);
+      long = length-set c.loop-i-2.all c.loop-i-2.i c.low_bits.result ∙ inv.long;
+    }
 
 -- at first no row block has seen a position
 pub returns : goal.returns
@@ -35,5 +44,5 @@ returns g c =
     let made =
     c.in_ok-lanes.ensures.items_if_clones_equal
     (λ y same. cloned (replicate g.row.W 0) y g.row.W same (length-replicate g.row.W 0)) in
-    seen_none c.args.lifted.now _ _ made (grind (arith, c.rows-rows.ensures))
+    seen_none c.args.lifted.now _ _ made (grind (arith, c.rows-rows.ensures)) c.loop-i.invariant.first
     (λ i below. c.loop-i.invariant.starts i (omega (arith, c.rows-rows.ensures, below))) c.find_holders.ensures refl refl all

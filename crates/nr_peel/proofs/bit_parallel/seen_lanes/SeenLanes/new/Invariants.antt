@@ -8,6 +8,7 @@ invariant-loop-i g l = record {
   starts : (h : ℕ) → h < l.i
       → slice_index l.starts h + length (row_of (entries_in l.lifted.plan.graph l.lifted.table.now) h)
       ≡ slice_index l.starts (h + 1);
+  first : slice_index l.starts 0 ≡ 0;
   few : slice_index l.starts l.i ≤ 68 * l.i;
   long : length l.starts ≡ 47;
 }
