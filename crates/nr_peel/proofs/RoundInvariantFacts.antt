@@ -314,9 +314,9 @@ passes_more {c} {n} {last} {found} {more} {a} {b} {d} first second = record {
         (λ t below. rw known (same t below ∙ quiet.0 t below), λ t below one. quiet.1 t below (sym (same t below) ∙ one))
 
 -- a pass that found a row, last or not
-pub passes_found : {W D : ℕ} → {c : Checks} {n : ℕ} {last other : Bool} {a b : Sweep W D} {p q : Progress}
-    → Passes c n last true a b p q → Passes c n other true a b p q
-passes_found {c} {n} {last} {other} {a} {b} first =
+pub passes_found : {W D : ℕ} → {c : Checks} {n m : ℕ} {last other : Bool} {a b : Sweep W D} {p q : Progress}
+    → Passes c n last true a b p q → Passes c m other true a b p q
+passes_found {c} {n} {m} {last} {other} {a} {b} first =
     record { on = first.on; rises = first.rises; quiet = λ no. absurd (false≢true (sym no)) }
 
 -- a pass alone, where no last one is made
@@ -324,6 +324,15 @@ pub passes_early : {W D : ℕ} → {c : Checks} {n : ℕ} {other found : Bool} {
     → Passes c n false found a b p q → other ≡ false → Passes c n other found a b p q
 passes_early {c} {n} {other} {found} {a} {b} first none =
     record { on = first.on; rises = first.rises; quiet = λ no g below done. first.quiet no g below (rw none at done) }
+
+-- a pass after another one
+pub passes_then : {W D : ℕ} → {c : Checks} {n m : ℕ} {last other found more : Bool} {a b d : Sweep W D} {p q r : Progress}
+    → Passes c n last found a b p q → Passes c m other more b d q r → Passes c m other more a d p r
+passes_then {c} {n} {m} {last} {other} {found} {more} {a} {b} {d} first second = record {
+  on = on_then first.on second.on;
+  rises = λ e. omega (arith, first.on.full, second.rises e);
+  quiet = second.quiet;
+}
 
 -- a last pass after one that found none
 pub passes_last : {W D : ℕ} → {c : Checks} {n : ℕ} {last other found more : Bool} {a b d : Sweep W D} {p q r : Progress}

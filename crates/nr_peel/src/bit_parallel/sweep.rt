@@ -92,35 +92,60 @@ impl<const W: usize, const D: usize> Sweep<W, D> {
         true
     }
 
-    // Each row block has its turn. Whether a row had a count of one. In a last pass no row block waits.
-    fn pass(&mut self, lifted: &Lifted<'_>, progress: &mut Progress, last: bool) -> bool
+    // The first row blocks have their turns. Whether a row had a count of one. In a last pass no row block waits.
+    fn pass(&mut self, lifted: &Lifted<'_>, progress: &mut Progress, rows: u32, last: bool) -> bool
         requires table { IsTable lifted.now.table.now }
+        requires few { rows ≤ (lifted_checks lifted.now).rows }
         requires held { IsHeld (lifted_checks lifted.now) self.old progress.old }
-        ensures { Passes (lifted_checks lifted.now) (lifted_checks lifted.now).rows last result
-            self.old self.new progress.old progress.new }
+        ensures { Passes (lifted_checks lifted.now) rows last result self.old self.new progress.old progress.new }
     {
         let mut found = false;
-        for i in 0..lifted.plan.graph.rows() {
+        for i in 0..rows {
             found |= self.visit(lifted, progress, i, last);
         }
         found
     }
 
-    // Rows with a count of one fix their positions. Those whose row block waits come last, when no other is left, and only
-    // if steps are kept: no receiver asks for what they fix. Whether there is such a row.
-    pub(crate) fn search(&mut self, lifted: &Lifted<'_>, progress: &mut Progress) -> bool
+    // How many row blocks lead up to the last one that doesn't wait.
+    fn awake(&self, lifted: &Lifted<'_>) -> u32
+        ensures { result ≤ (lifted_checks lifted.now).rows }
+    {
+        let mut rows = 4;
+        for i in 4..lifted.plan.graph.rows() {
+            let own = (lifted.plan.graph.info_cols() + i) as usize;
+            if self.lanes.seen.has_begun(own) {
+                rows = i + 1;
+            }
+        }
+        rows
+    }
+
+    // Rows with a count of one fix their positions. The row blocks that may not wait go first, since they are mostly few. Those
+    // that wait come last, when no other row is left, and only if steps are kept: no receiver asks for what they fix. Whether
+    // there is such a row.
+    pub(crate) fn search(
+        &mut self,
+        lifted: &Lifted<'_>,
+        progress: &mut Progress,
+        awake: u32,
+    ) -> bool
         requires table { IsTable lifted.now.table.now }
+        requires few { awake ≤ (lifted_checks lifted.now).rows }
         requires held { IsHeld (lifted_checks lifted.now) self.old progress.old }
         ensures { Passes (lifted_checks lifted.now) (lifted_checks lifted.now).rows progress.old.order.kept result
             self.old self.new progress.old progress.new }
     {
-        if self.pass(lifted, progress, false) {
+        let rows = lifted.plan.graph.rows();
+        if self.pass(lifted, progress, awake, false) {
+            return true;
+        }
+        if self.pass(lifted, progress, rows, false) {
             return true;
         }
         if !progress.order.kept {
             return false;
         }
-        self.pass(lifted, progress, true)
+        self.pass(lifted, progress, rows, true)
     }
 
     // Fixes positions until no row has exactly one unknown position, but for rows whose block waits if no steps are kept.
@@ -135,6 +160,7 @@ impl<const W: usize, const D: usize> Sweep<W, D> {
         ensures keeps { Keeps (lifted_checks lifted.now) self.old.lanes self.new.lanes
             progress.old.order progress.new.order }
     {
-        'passes: while self.search(lifted, progress) {}
+        let awake = self.awake(lifted);
+        'passes: while self.search(lifted, progress, awake) {}
     }
 }

@@ -6,7 +6,7 @@ pub passes-init : goal.passes-init
 passes-init g c = record { on = on_none c.requires.held }
 
 pub search-requires : goal.search-requires
-search-requires g c = (omega arith, (c.requires.table, c.passes.invariant.on.held))
+search-requires g c = (omega arith, (c.requires.table, (c.awake-awake.ensures, c.passes.invariant.on.held)))
 
 pub passes-smaller : goal.passes-smaller
 passes-smaller g c =
