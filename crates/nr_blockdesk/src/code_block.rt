@@ -2,7 +2,7 @@
 
 ghost use Rattle.std.specs.Prelude.{◌≡◌, ℕ, ◌<◌, length, slice_index_or, IfOk, IfErr, OnOk};
 ghost use Rattle.nr_segment.specs.{Plan.word_size};
-ghost use Rattle.nr_peel.specs.Peeling.{Peeling};
+ghost use Rattle.nr_peel.specs.Peeling.{Peeling, checks_for};
 ghost use Rattle.nr_blockdesk.specs.{Heard.heard_of, Receiving.AreStoresFor, Receiving.peelers_of};
 ghost use Rattle.nr_blockdesk.specs.inside.Receiving.{AreWords, IsTied, kept_words};
 
@@ -46,11 +46,11 @@ impl<'t, K: Recording> CodeBlock<'t, K> {
 
     // Its peeler now knows what that of another code block knows. Its word is as it was.
     fn know_as(&mut self, from: &CodeBlock<'t, K>) -> Result<(), AllocError>
+        requires { checks_for self.old.peeler ≡ checks_for from.now.peeler }
         ensures peeler { OnOk result (self.new.peeler ≡ from.now.peeler) }
         ensures word { self.new.word ≡ self.old.word }
     {
-        self.peeler = from.peeler.try_clone()?;
-        Ok(())
+        self.peeler.copy_from(&from.peeler)
     }
 }
 
@@ -84,7 +84,9 @@ pub(crate) fn code_blocks_again<'t, K: Recording>(
     mut blocks: Vec<CodeBlock<'t, K>>,
     from: &[CodeBlock<'t, K>],
 ) -> Result<Vec<CodeBlock<'t, K>>, AllocError>
-    requires { length blocks.items ≡ length from.now }
+    requires many { length blocks.items ≡ length from.now }
+    requires code { (r : ℕ) (d : CodeBlock K) → r < length from.now
+        → checks_for (slice_index_or blocks.items r d).peeler ≡ checks_for (slice_index_or from.now r d).peeler }
     ensures peelers { IfOk result (λ copies. peelers_of copies.items ≡ peelers_of from.now) }
     ensures words { IfOk result (λ copies. kept_words copies.items ≡ kept_words blocks.entry.items) }
 {

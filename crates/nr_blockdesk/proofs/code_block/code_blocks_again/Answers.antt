@@ -1,9 +1,20 @@
-use Rattle.nr_blockdesk.proofs.Common.{◌≡◌, ◌+◌, ◌++◌, ◌∷◌, ◌<◌, [], Bool, List, length, length-set}
+use Rattle.nr_blockdesk.proofs.Common.{◌+◌, ◌++◌, ◌∷◌, ◌<◌, [], Bool, List, length, length-set}
 use Rattle.nr_blockdesk.proofs.Common.{length-map, take, ap, arith, sym, ◌∙◌, CodeBlock, Peeling, get_or-map, kept_words}
-use Rattle.nr_blockdesk.proofs.Common.{map-set, peelers_of, set}
+use Rattle.nr_blockdesk.proofs.Common.{map-set, peelers_of, set, cases_eq, get_or_read, get_or-set_other, get_or-set_same, inl, inr}
+use Rattle.nr_ldpcenc.specs.Rows.{Checks}
+use Rattle.nr_peel.specs.Peeling.{checks_for}
 use Rattle.nr_blockdesk.proofs.CopyFacts.{taken_more}
 use Rattle.std.proofs.lemmas.List.{set-get_or, take_more_set}
 use Rattle.nr_blockdesk.proofs.code_block.code_blocks_again.Goals as goal
+
+-- both peelers are of one code
+pub know_as-requires : goal.know_as-requires
+know_as-requires g c =
+    let from : List (CodeBlock g.row.K.Denot) = c.args.from.now in
+    let block : CodeBlock g.row.K.Denot = c.index_mut.result.now in
+    let checks_in : CodeBlock g.row.K.Denot → Checks = λ b. checks_for b.peeler in
+    ap checks_in c.index_mut.ensures.value ∙ c.loop-r.invariant.code c.loop-r.r block c.loop-r-test.true
+    ∙ sym (ap checks_in (get_or_read from c.loop-r.r c.index-from-r.result c.loop-r-test.true c.index-from-r.is block))
 
 -- one peeler more
 pub loop-r-preserved : goal.loop-r-preserved
@@ -18,8 +29,16 @@ loop-r-preserved g c =
     let peeler_in : CodeBlock g.row.K.Denot → Peeling = λ b. b.peeler in
     let word_in : CodeBlock g.row.K.Denot → List Bool = λ b. b.word in
     let below : r < length from = c.loop-r-test.true in
+    let checks_in : CodeBlock g.row.K.Denot → Checks = λ b. checks_for b.peeler in
     record {
       many = length-set blocks r with ∙ inv.many;
+      code = λ q d short. elim (cases_eq q r) [
+        | inl same ↦
+            rw same (ap checks_in (get_or-set_same blocks r with d (omega (arith, inv.many, below)))
+            ∙ ap checks_for c.in_ok-know_as.ensures.peeler
+            ∙ ap checks_in (get_or_read from r other below c.index-from-r.is d))
+        | inr apart ↦ ap checks_in (get_or-set_other blocks r q with d apart) ∙ inv.code q d short
+      ];
       peelers = ap (take (r + 1)) (map-set peeler_in blocks r with)
           ∙ take_more_set (peelers_of blocks) r with.peeler (omega (arith, inv.many, below, length-map blocks peeler_in))
           ∙ ap (λ xs. xs ++ with.peeler ∷ []) inv.peelers

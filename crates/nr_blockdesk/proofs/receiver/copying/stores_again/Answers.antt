@@ -1,4 +1,4 @@
-use Rattle.nr_blockdesk.proofs.Common.{◌++◌, ◌∷◌, [], length-set, ap, sym, ◌∙◌, arith, take_at}
+use Rattle.nr_blockdesk.proofs.Common.{◌++◌, ◌∷◌, [], length-set, ap, ◌∙◌, arith}
 use Rattle.nr_blockdesk.proofs.CopyFacts.{taken_more}
 use Rattle.std.proofs.lemmas.List.{take_more_set}
 use Rattle.nr_blockdesk.proofs.receiver.copying.stores_again.Goals as goal
