@@ -30,7 +30,7 @@ pub use Rattle.nr_drawing.{proofs.DrawnWordFacts.length-marks_drawn, specs.Drawi
 pub use Rattle.nr_blockdesk.specs.{Explains.Reception, Explains.reception, Explains.reception_said, Marks.heards, Marks.place_heard}
 pub use Rattle.nr_blockdesk.specs.{Link.IsBlock, Link.IsLink, Link.Link, Link.err_unless, Link.is_size, Sent.tx_said}
 pub use Rattle.nr_blockdesk.specs.Outcome.{IsDecided, Verdict, contradiction, delivered, left, open_still}
-pub use Rattle.nr_blockdesk.specs.{Receiving.AreStoresFor, Receiving.verdict, Slices.IsBetween}
+pub use Rattle.nr_blockdesk.specs.{Receiving.AreStoresFor, Receiving.verdict}
 pub use Rattle.nr_calls.specs.{Codeword.coded_octet, Codeword.is_digit, Codeword.is_one, Crossing.digit, Crossing.tx_of}
 pub use Rattle.nr_calls.specs.{Encoding.base_graph, Encoding.can_lift, Encoding.encoded_octet, Encoding.is_coded, Many.nth_row}
 pub use Rattle.nr_calls.specs.Findings.{AreWritten, Findings, IsHandedUp, lefts, outcome_number, outcomes_of, places}

@@ -3,7 +3,6 @@ use Rattle.std.proofs.Common.{◌≡◌, refl, sym, ap, ◌∙◌, ℕ, ◌+◌,
 use Rattle.std.proofs.Common.{arith}
 use Rattle.std.proofs.Common.{List, [], ◌∷◌, ◌++◌, length, take, drop, get_or, Result, Ok, Err}
 use Rattle.std.proofs.lemmas.Slice.{between_is, take-put_mid_below}
-use Rattle.std.specs.List.{between}
 use Rattle.nr_refusal.specs.Refusal.{◌>>=◌, Gives, with_fault}
 use Rattle.std.proofs.Common.{◌⊎◌, ⊎_elim, eq-eqb, subst}
 use Rattle.std.proofs.lemmas.Bool.Decides.{nat_tests}

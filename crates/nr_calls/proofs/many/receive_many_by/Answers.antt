@@ -1,14 +1,11 @@
-use Rattle.std.proofs.Common.{◌≡◌, ◌≢◌, ⊎_elim, ◌∙◌, ap, refl, sym, inl, inr, rules, arith, ℕ, ◌+◌}
-use Rattle.std.proofs.Common.{◌<◌, Ok, Err, List, [], ◌∷◌, ◌++◌, get_or, length, map}
-use Rattle.std.proofs.Common.{below_more, true}
+use Rattle.std.proofs.Common.{◌≡◌, ⊎_elim, ◌∙◌, ap, refl, sym, inl, inr, arith, ◌+◌}
+use Rattle.std.proofs.Common.{Err, [], ◌∷◌, length, map}
+use Rattle.std.proofs.Common.{true}
 use Rattle.std.proofs.lemmas.List.{length-append, map-append}
-use Rattle.std.proofs.lemmas.List.FromFn.{get_or-map-range_with_len, length-map-range_with_len}
 use Rattle.std.proofs.lemmas.Result.{err_from_is_err_and}
 use Rattle.nr_blockdesk.specs.Receiving.{ReceiverView}
-use Rattle.nr_calls.specs.Findings.{Findings}
-use Rattle.nr_calls.specs.Many.{each_said, places_sent, room_of_each, nth_row, first_rows}
+use Rattle.nr_calls.specs.Many.{each_said, room_of_each}
 use Rattle.nr_calls.specs.inside.Words.{findings_of, has_room, planned_of}
-use Rattle.nr_calls.specs.declared.findings.Room.{Room}
 use Rattle.nr_calls.proofs.ManyFacts.{each-filled, filled-more, many-done, many-gives, many-refused}
 use Rattle.nr_calls.proofs.ManyFacts.{room-fills, row-fails, row-inside, row-more, rows-all}
 use Rattle.nr_calls.specs.declared.fault.Fault.TheVariants as fault

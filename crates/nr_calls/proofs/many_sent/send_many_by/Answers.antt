@@ -1,5 +1,4 @@
-use Rattle.std.proofs.Common.{◌∙◌, ap, sym, ◌/◌, ◌*◌, List}
-use Rattle.nr_bitvec.specs.BitList.{BitList}
+use Rattle.std.proofs.Common.{◌∙◌, ap, sym, ◌/◌, ◌*◌}
 use Rattle.nr_calls.specs.inside.Words.{joined}
 use Rattle.nr_calls.proofs.ManySentFacts.{all-long, made-room}
 use Rattle.nr_calls.proofs.many_sent.send_many_by.Goals as goal
