@@ -250,5 +250,8 @@ class Rom(shared.InFolder):
 
     def test_refusals(self) -> None:
         self.assertIn("17 is no lifting size", shared.refused("table", "rom", "--z=17", TABLE, status=2))
+        greater = self.file("greater.csv", TABLE.read_text().replace("2,0,2,0,", "2,0,2,512,", 1))
+        self.assertIn("the value 512, and a word has 9 bits", shared.refused("table", "rom", greater, status=2))
+        self.assertEqual(shared.made("table", "rom", "--z=4", greater), shared.made("table", "rom", "--z=4", TABLE))
         self.assertIn("name a file", shared.refused("table", "rom", "-"))
         self.assertIn("/nowhere cannot be read: No such file or directory", shared.refused("table", "rom", "/nowhere"))

@@ -36,6 +36,9 @@ def words_of(rows: list[Row], index: int, z: int | None) -> list[int]:
 def sections(tables: Tables, sizes: list[int]) -> list[Section]:
     """A section for each base graph and set index; or, with lifting sizes, for each base graph and one of these."""
     found = []
+    most = max(value for rows in tables.values() for row in rows for _, values in row for value in values)
+    if not sizes and most >> COLUMN:
+        raise Wrong(f"the table has the value {most}, and a word has {COLUMN} bits for it: --z reduces it")
     for z in sizes:
         if z not in SETS_OF_SIZES:
             raise Wrong(f"--z: {z} is no lifting size of Table 5.3.2-1")
