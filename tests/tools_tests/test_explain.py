@@ -86,6 +86,13 @@ class Names(shared.InFolder):
         self.assertEqual(shared.tool("explain", "mend", "--table", "t")[0], 2)
         self.assertEqual(shared.tool("explain", "run", "check", "--table", "t")[0], 2)
 
+    def test_a_program_that_is_killed(self) -> None:
+        """It says nothing itself, as on a processor that lacks an instruction."""
+        killed = self.file("killed", "#!/bin/sh\nkill -ILL $$\n")
+        killed.chmod(0o755)
+        for words in (["explain", "check", "--table", TABLE], ["vectors", "--near", 8]):
+            said = shared.refused(str(words[0]), *words[1:], "--program", killed, with_program=False)
+            self.assertIn(f"{killed} ended with status -4", said)
 
     def test_about(self) -> None:
         """Which program it is."""

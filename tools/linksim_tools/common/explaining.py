@@ -61,6 +61,8 @@ def ran(program: pathlib.Path, command: str, words: Words, stdin: bytes, heads: 
         wanted = tuple(head.encode() for head in heads)
         lines = [line.decode().strip() for line in child.stdout if line.startswith(wanted)]
         said = child.stderr.read().decode(errors="replace")
+    if child.returncode and not said.strip():
+        raise Failed(f"{program} ended with status {child.returncode}")
     return Run(child.returncode, said, lines)
 
 

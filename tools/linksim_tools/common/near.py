@@ -20,7 +20,7 @@ def plan_line(program: pathlib.Path, rate: int, size: int) -> str | None:
         return ended.stdout.split(b"\n", 1)[0].decode().partition(" a ")[2]
     said = ended.stderr.decode(errors="replace").strip()
     if said != "linksim: refused: block 1 Uneven":
-        raise Failed(said)
+        raise Failed(said or f"{program} ended with status {ended.returncode}")
     return None
 
 

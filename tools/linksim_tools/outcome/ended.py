@@ -50,7 +50,7 @@ def lines_of(program: pathlib.Path, command: str, words: dict[str, str], stdin: 
     """The lines of a command's text that begin so; a refusal is a failure with its line."""
     run = explaining.ran(program, command, words, stdin, heads)
     if run.status:
-        raise Failed((run.said.strip() or f"linksim {command} ended with status {run.status}").splitlines()[0])
+        raise Failed(run.said.strip().splitlines()[0])
     return run.lines
 
 
