@@ -50,6 +50,8 @@ class Theory(Conf):
         lines = self.curve("limits", self.conf).splitlines()
         self.assertEqual(lines[0], "transmissions,erasure_limit,density_evolution")
         self.assertEqual([line.split(",")[:2] for line in lines[1:]], [["1", "0.6667"], ["2", "0.8333"]])
+        lacking = self.file("one.toml", self.text.replace("a = 40", "a = 4000").replace("rate2048 = 512", "rate2048 = 2048"))
+        self.assertIn("practice.csv: the table lacks base graph 1", self.refused("limits", lacking))
 
     def test_wilson_intervals_that_are_known(self) -> None:
         # Newcombe, Statistics in Medicine 17 (1998), Table I, method 3.

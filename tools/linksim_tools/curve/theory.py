@@ -43,10 +43,12 @@ class Code:
 def rows_of_table(path: pathlib.Path, graph: int) -> tuple[tuple[int, ...], ...]:
     """For each row of the base graph the columns at which the table has an entry."""
     try:
-        rows = entries_of(files.text_of(path, files.LIMITS["table"]))[graph]
-    except (Failed, ValueError, KeyError, csv.Error):
+        tables = entries_of(files.text_of(path, files.LIMITS["table"]))
+    except (ValueError, csv.Error):
         raise Failed(f"{path}: this is no shift table; linksim check --table {path} says why") from None
-    return tuple(tuple(column for column, _ in row) for row in rows)
+    if graph not in tables:
+        raise Failed(f"{path}: the table lacks base graph {graph}")
+    return tuple(tuple(column for column, _ in row) for row in tables[graph])
 
 
 def code_of(setting: Setting, program: pathlib.Path) -> Code:
