@@ -29,6 +29,9 @@ class Merging(Conf):
         for text in ("0.2,0,40,1,3,2\n", "x,0,40,1,3,2,9\n", "0.2,0,0,1,3,2,9\n", "1.2,0,40,1,3,2,9\n"):
             said = shared.refused("curve", "merge", self.file("3.csv", text), lines=2, with_program=False)
             self.assertRegex(said, "(?s)line 1 is no line of results.*there is no line of results in it")
+        said = shared.refused("curve", "merge", self.file("3.csv", "x\n" * 13), lines=12, with_program=False)
+        self.assertIn("line 10 is no line of results, and is left out\ntools/curve: ", said)
+        self.assertIn("3.csv: so are 3 more\n", said)
 
     def merged(self, text: str) -> tuple[str, str]:
         """What merge writes of a file, without the header, and what it says."""

@@ -149,8 +149,10 @@ def lines_from(path: pathlib.Path | str) -> list[Line]:
             line = line_at_end(one)
             found += [(number, line)] if line else []
             left_out.append(f"line {number} {'begins with a line that was cut off' if line else 'is no line of results'}")
-    for said in [*left_out[:MOST_SAID], *[f"and {len(left_out) - MOST_SAID} lines more"] * (len(left_out) > MOST_SAID)]:
+    for said in left_out[:MOST_SAID]:
         say(f"{path}: {said}, and is left out")
+    if left_out[MOST_SAID:]:
+        say(f"{path}: so are {len(left_out) - MOST_SAID} more")
     if not found and text.strip() and not text.startswith("p,chunk,"[: len(text)]):
         raise Failed(f"{path}: there is no line of results in it")
     return whole(path, found)
