@@ -51,7 +51,8 @@ class Lines(Conf):
         if shared.run(["/usr/bin/python3", "-c", "import matplotlib, numpy"])[0]:
             self.skipTest("matplotlib and numpy are not there")
         self.file("c.csv", "0.2,0,40,1,40,3,40,3,900,9\n0.1,0,40,1,21,0,21,0,200,0\n")
-        self.assertIn("x.xyz: ", self.refused("plot", self.conf, self.folder / "x.xyz"))
+        for name in ("x.xyz", "x", "."):
+            self.assertIn(f"{self.folder / name}: ", self.refused("plot", self.conf, self.folder / name))
         self.assertIn("No such file", self.refused("plot", self.conf, self.folder / "none" / "x.svg"))
         full = self.folder / "full.svg"
         full.symlink_to("/dev/full")

@@ -60,7 +60,7 @@ def save(figure: typing.Any, out: pathlib.Path | typing.IO[bytes], title: str, d
     try:
         with named_in_faults(str(out)):
             if path and path.suffix != ".svg":
-                figure.savefig(path)
+                figure.savefig(path, format=path.suffix[1:])
                 return
             drawn = io.StringIO()
             figure.savefig(drawn, format="svg", metadata=dict.fromkeys(("Date", "Creator", "Format", "Type")))
