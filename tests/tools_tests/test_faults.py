@@ -42,6 +42,7 @@ class Lines(Conf):
     def test_failed_rounds(self) -> None:
         """In no folder; and none."""
         self.assertIn("/dev/null", self.refused("failed", self.conf, "0.4", "0", "/dev/null/x"))
+        self.assertIn("is no empty folder", self.refused("failed", self.conf, "0.4", "0", self.folder))
         said = shared.refused("curve", "failed", self.conf, "0", "0", self.folder / "failed", status=0)
         self.assertEqual(said, "tools/curve: no round failed: nothing is written\n")
         self.assertFalse((self.folder / "failed").exists())

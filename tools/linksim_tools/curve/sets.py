@@ -7,7 +7,7 @@ import pathlib
 import shlex
 import typing
 
-from linksim_tools.common.program import Failed
+from linksim_tools.common.program import Failed, Wrong, name_of
 from linksim_tools.curve.chunks import failed_rounds, lines_of, parts_of, schedule_of, sendings_of, write_files
 
 if typing.TYPE_CHECKING:
@@ -48,12 +48,14 @@ def write_failed(
 ) -> tuple[list[int], str | None]:
     """Writes the files of the rounds of a chunk that fail after so many transmissions, and those alone, into a folder.
     It answers the rounds, and the command that shows what they are stuck on. If none fails, nothing is written."""
+    there = pathlib.Path(folder)
+    if there.is_dir() and any(there.iterdir()):
+        raise Wrong(f"{folder} is there, and is no empty folder")
     turns = failed_rounds(setting, program, p, chunk, after)
     if not turns:
         return turns, None
     if len(parts_of(setting, p, turns, after)) > 1:
-        raise Failed(f"{len(turns)} rounds failed, more than one schedule takes: use tools/curve sets, or a lower p")
-    there = pathlib.Path(folder)
+        raise Failed(f"{len(turns)} rounds failed, more than one schedule takes: use {name_of('curve')} sets, or a lower p")
     there.mkdir(parents=True, exist_ok=True)
     words = write_files(setting, there, schedule_of(setting, sendings_of(setting, p, chunk, turns, after)))
     return turns, shlex.join([short_path(program), "audit", *words])
