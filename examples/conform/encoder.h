@@ -313,7 +313,7 @@ int main(int count, char **words)
 {
     struct sent_case it;
     if (count != 2 || !read_table(words[1])) {
-        fprintf(stderr, "%s: one word is wanted, the shift table\n", words[0]);
+        fprintf(stderr, "%s: one word is wanted, a shift table that `linksim check` accepts\n", words[0]);
         return 2;
     }
     while (read_case(&it)) {

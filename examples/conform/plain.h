@@ -67,6 +67,10 @@ static int read_case(struct sent_case *it)
     memset(it, 0, sizeof *it);
     for (char *name = strtok(line, " \n"), *value; name && (value = strtok(NULL, " \n")); name = strtok(NULL, " \n"))
         take_word(it, name, value);
+    if (!it->bits) {
+        fputs("no case in plain words: `run` wants --plain\n", stderr);
+        exit(2);
+    }
     return 1;
 }
 

@@ -62,6 +62,10 @@ static enum read read_arrival(struct arrival *it)
     memset(it, 0, sizeof *it);
     for (char *name = strtok(line, " \n"), *value; name && (value = strtok(NULL, " \n")); name = strtok(NULL, " \n"))
         take_word(it, name, value);
+    if (!it->llr) {
+        fputs("no transmission in plain words: `run` wants --plain\n", stderr);
+        exit(2);
+    }
     return ARRIVED;
 }
 

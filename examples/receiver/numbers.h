@@ -80,10 +80,10 @@ static int read_table(const char *path)
     char line[512];
     FILE *file = fopen(path, "r");
     unsigned taken = 0;
-    for (int first = 1; file && fgets(line, sizeof line, file); first = 0) {
-        if (first && strstr(line, "graph"))
+    while (file && fgets(line, sizeof line, file)) {
+        if (!line[strspn(line, "\r\n")] || (!taken && strstr(line, "graph")))
             continue;
-        if (!take_record(line + 3 * (first && !strncmp(line, "\xEF\xBB\xBF", 3))))
+        if (!take_record(line + 3 * (!taken && !strncmp(line, "\xEF\xBB\xBF", 3))))
             return 0;
         taken++;
     }

@@ -215,7 +215,7 @@ int main(int count, char **words)
     for (int n = 2; n < count && known; n++)
         known = take_option(words[n]);
     if (!known) {
-        fprintf(stderr, "%s: the shift table is wanted, and after it an arithmetic, `soft` or a mistake\n", words[0]);
+        fprintf(stderr, "%s: a table that `linksim check` accepts is wanted, then an arithmetic, `soft` or a mistake\n", words[0]);
         return 2;
     }
     for (enum read found; (found = read_arrival(&it)) != ENDED;) {

@@ -45,6 +45,14 @@ class Asked(Run):
     def test_template_in_c(self) -> None:
         status, lines, error = self.run_(receiver_shared.built("template"), more=["--plain"])
         self.assertEqual((status, error, lines[0]), (1, [], "suite quick: 6 cases, 6 answered"))
+        wrong = shared.run([receiver_shared.built("template")], b'{"reset": true}\n')
+        self.assertEqual(wrong, (2, b"", b"no transmission in plain words: `run` wants --plain\n"))
+
+    @unittest.skipUnless(shutil.which("cc"), "no C compiler is there")
+    def test_blank_lines_of_a_table(self) -> None:
+        """They are no records, as the program has it."""
+        table = self.file("blank.csv", "\n" + receiver_shared.table().read_text().replace("\n", "\n\r\n"))
+        self.assertEqual(shared.run([receiver_shared.built("receiver"), table]), (0, b"", b""))
 
     @unittest.skipUnless(shutil.which("cc"), "no C compiler is there")
     def test_documents(self) -> None:
