@@ -49,10 +49,13 @@ class Examples(built.InFolder):
         self.judged("icarus", "iverilog")
 
     def test_changes(self) -> None:
-        """A model is built anew of other pins, and over another library."""
+        """A model is built anew of other pins, and over another library; all is judged anew, as of another table."""
         (self.copy / "out").mkdir()
-        for name in ("nr.vpi", "suite.vvp"):
+        for name in ("nr.vpi", "suite.vvp", "crc.vvp", "crc.icarus", "suite.jsonl", "cases.txt", "rom.mem"):
             (self.copy / "out" / name).touch()
+        said = self.made("-n", "suite", "out/crc.icarus", "SIMULATOR=icarus")[1]
+        for words in (" suite --table ", " plain ", " rom ", " out/crc.vvp "):
+            self.assertIn(words, said)
         for changed in (self.copy.resolve() / "code_block_pins.svh", built.STATIC):
             self.assertIn("iverilog -g2012", self.made("-n", "-W", str(changed), "out/suite.vvp")[1])
 
