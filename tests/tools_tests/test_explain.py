@@ -5,8 +5,10 @@ from __future__ import annotations
 
 import hashlib
 import re
+import unittest.mock
 
-from linksim_tools.common import faults
+from linksim_tools.common import faults, program, toml_file
+from linksim_tools.outcome import command
 import seen_pages
 import shared
 
@@ -233,6 +235,10 @@ class Outcome(seen_pages.SeenPages):
         output = self.outcome(self.file("s.csv", "block,rv\n"), status=1)
         self.assertTrue(output.startswith("linksim: refused: schedule Header\n"), output)
         self.assertEqual(shared.tool("explain", "outcome", "--table", "t")[0], 2)
+        words = {name: str(path) for name, path in shared.INPUTS.items()}
+        words["schedule"] = str(shared.EXAMPLES / "losses.csv")
+        with unittest.mock.patch.object(toml_file, "tomllib", None), self.assertRaisesRegex(program.Failed, "the package tomli"):
+            command.told(shared.program(), words, None)
 
     def test_the_pictures_of_long_rounds(self) -> None:
         """Drawn and listed erasures, several code blocks, masks, a limited buffer, processes and refused transmissions. The tool

@@ -5,7 +5,7 @@ from __future__ import annotations
 import pathlib
 
 from linksim_tools.common import explaining, files
-from linksim_tools.common.explained_files import File, rate_of
+from linksim_tools.common.explained_files import File, keys_of
 from linksim_tools.common.program import Failed, Wrong, name_of, named_in_faults
 from linksim_tools.common.toml_file import settings_of
 from linksim_tools.conform.files import table_of
@@ -30,11 +30,14 @@ def told(program: pathlib.Path, words: dict[str, str], html: str | None) -> tupl
     if html and "-" in words.values():
         raise Wrong("--html wants every file by its name: it is read several times")
     stdin = explaining.stdin_of(words)
-    rate = rate_of(File(words["settings"], stdin, files.LIMITS["settings"]))
     try:
-        outcome = outcome_of(program, words, rate if rate and 0 < rate <= 2048 else 0, stdin)
+        rate = keys_of(File(words["settings"], stdin, files.LIMITS["settings"])).get("rate2048")
+        outcome = outcome_of(program, words, rate if isinstance(rate, int) and 0 < rate <= 2048 else 0, stdin)
     except Failed:
-        return explaining.explained(program, "run", words, stdin)
+        lines, status = explaining.explained(program, "run", words, stdin)
+        if not lines[0].startswith("linksim: refused: "):
+            raise
+        return lines, status
     if html:
         with named_in_faults(html):
             text = "".join(line + "\n" for line in page.lines(outcome, pictures(program, words, outcome)))
