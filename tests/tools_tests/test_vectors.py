@@ -150,6 +150,8 @@ class Refused(shared.InFolder):
         self.refused("the program refuses its transmission: Rv", "--rv=4", "--g=8")
         self.refused("the program refuses its transmission: Ragged", "--rv=0", "--g=9", "--qm=2")
         self.refused("the program refuses its transmission: NoneScheduled", "--rv=0", "--g=8", "--mask=7")
+        less = self.file("less.toml", "rate2048 = 2048\nlbrm = 0\n")
+        self.refused("case block-2: the program refuses its block: NoBuffer", "--rv=0", "--g=8", "--block=2", "--settings", less)
         self.refused("has no block 4", "--rv=0", "--g=8", "--block=4")
         self.refused("has no block 0", "--rv=0", "--g=8", "--block=0")
         self.refused("--mask is all", "--rv=0", "--g=8", "--mask=x")

@@ -4,6 +4,7 @@ from __future__ import annotations
 
 import dataclasses
 import pathlib
+import re
 import typing
 
 from linksim_tools.common import rate_matching
@@ -43,7 +44,11 @@ def send(
     """The bits that the program sends for these lines of a schedule of the cases' blocks, and refuses for none."""
     blocks = (lists.hexadecimal(case.a) for case in cases)
     schedule = ["block,rv,g,qm,nl,erase,flip,mask", *(",".join(map(str, line)) for line in lines)]
-    answers = answers_of(program, "send", table, settings_text(*settings), blocks, schedule)
+    try:
+        answers = answers_of(program, "send", table, settings_text(*settings), blocks, schedule)
+    except Failed as failed:
+        found = re.fullmatch(r"linksim: refused: block (\d+) (\w+)", str(failed))
+        raise Failed(f"case {cases[int(found[1]) - 1].id}: the program refuses its block: {found[2]}") if found else failed
     for answer, line in zip(answers, lines):
         kind, _, _, digits = answer.split()
         if kind != "sent":
