@@ -144,7 +144,7 @@ def view_of(given: typing.Any) -> memoryview:
     view = memoryview(given)
     if view.format[-1:] in ("e", "f", "d", "g"):
         raise TypeError("soft values are given: nr.hard(llrs, threshold) makes of them the places that are wanted")
-    if view.itemsize != 1:
+    if view.itemsize > 1:  # (0 in an array of no row of ctypes, in Python 3.8)
         raise TypeError(f"items of {view.itemsize} octets: make them of one, as by .astype(numpy.uint8)")
     return view
 

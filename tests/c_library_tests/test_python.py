@@ -224,6 +224,13 @@ class Given(built.OfModule):
             status, said = built.ran(words, environment=built.for_python())
             self.assertTrue(status or b"Table.practice" in said and said.count(b"\n") < 300, said)
 
+    def test_no_row_in_each_python(self) -> None:
+        """Without numpy."""
+        call = "import nr; t, x = nr.Table.practice(), nr.Tx(8); nr.receive_many(t, 8, x, nr.send_many(t, [], x, rate=1), rate=1)"
+        for python in filter(shutil.which, ["python3", "python3.8", "python3.13"]):
+            alone, whole = (built.ran([python, "-S", "-c", it], environment=built.for_python()) for it in ("import nr", call))
+            self.assertTrue(alone[0] or whole == (0, b""), whole)
+
     def test_table_of_a_file(self) -> None:
         path = built.PRACTICE
         self.assertEqual(bytes(self.nr.Table.open(path)._entries), bytes(self.table._entries))
