@@ -63,9 +63,11 @@ class Examples(built.InFolder):
         """The encoder over the cases of a suite, in both simulators: right, and with a mistake that is named."""
         for simulator, tool in (("verilator", "verilator"), ("icarus", "iverilog")):
             built.needs(tool)
-            for bug, status, found in ((0, 0, "all that was answered agrees"), (1, 2, "shift-left gives all")):
+            wanted = (0, 0, "all that was answered agrees"), (1, 2, "shift-left gives all"), (5, 2, "difference, step interleaving")
+            for bug, status, found in wanted:
                 with self.subTest(simulator, bug=bug):
-                    ended, said = self.made("suite", f"TOOL={shared.TOOLS}/$(1)", f"SIMULATOR={simulator}", f"BUG={bug}")
+                    words = f"TOOL={shared.TOOLS}/$(1)", f"SIMULATOR={simulator}", f"BUG={bug}", f"STALL={40 if bug == 5 else 0}"
+                    ended, said = self.made("suite", *words)
                     self.assertEqual(ended, status, said)
                     self.assertRegex(said, rf"nr_scoreboard: \d+ cases, {'[1-9]' if bug else '0 faults'}")
                     self.assertIn(found, said)
