@@ -244,6 +244,8 @@ class Rom(shared.InFolder):
         for at, (z, index) in ((1024, (4, 0)), (1536, (208, 6))):
             found = [(word >> 9 & 127, word & 511) for word in words[at : at + len(rows)]]
             self.assertEqual(found, [(row[2], row[3 + index] % z) for row in rows])
+        headed = self.file("headed.csv", f"graph,{'x' * 140_000}{',y' * 9}\n{TABLE.read_text()}")
+        self.assertEqual(shared.made("table", "rom", "--z=4,208", headed), text)
         # The table lacks base graph 1.
         self.assertEqual(set(words[:1024]), {1 << 16})
         self.assertEqual(sum(word >> 16 for word in words[1024:1536]), GRAPHS[2].rows + 512 - len(rows))

@@ -12,6 +12,9 @@ from linksim_tools.common.program import Failed
 from linksim_tools.conform.case import Plan, Row, Tables
 from linksim_tools.conform.clauses import Clauses, Coding, Impossible, right
 
+# A header may have a field of any length, as the program has it.
+csv.field_size_limit(1 << 30)
+
 
 def entries_of(text: str) -> Tables:
     """The entries of an accepted shift table's text, by base graph and row: lists of a column and its eight values."""

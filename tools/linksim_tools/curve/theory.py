@@ -3,7 +3,6 @@
 from __future__ import annotations
 
 import collections
-import csv
 import dataclasses
 import math
 import pathlib
@@ -44,7 +43,7 @@ def rows_of_table(path: pathlib.Path, graph: int) -> tuple[tuple[int, ...], ...]
     """For each row of the base graph the columns at which the table has an entry."""
     try:
         tables = entries_of(files.text_of(path, files.LIMITS["table"]))
-    except (ValueError, csv.Error):
+    except ValueError:
         raise Failed(f"{path}: this is no shift table; linksim check --table {path} says why") from None
     if graph not in tables:
         raise Failed(f"{path}: the table lacks base graph {graph}")
