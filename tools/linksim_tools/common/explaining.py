@@ -9,7 +9,7 @@ import typing
 from linksim_tools.common import faults, files, graphs, near
 from linksim_tools.common.explained_files import (File, Record, blocks_of, numbers, of_blocks, of_schedule, of_settings,
                                                   of_table, rate_of)
-from linksim_tools.common.program import Failed, output_of
+from linksim_tools.common.program import Failed, output_of, plan_of_block
 
 Words = typing.Dict[str, str]
 # So many transmissions that are refused are told one by one.
@@ -147,10 +147,7 @@ def of_block(
         return lines
     if name == "Uneven":
         return [*lines, *(f"  {size}" for size in near.near(program, rate, 4 * len(text)))]
-    cut = output_of(program, ["cut", "--rate", str(rate), "--blocks", "-"], text.encode() + b"\n").split("\n")[
-        0
-    ].split()
-    lines.append(f"  rate2048 {rate}: base graph {cut[cut.index('graph') + 1]}")
+    lines.append(f"  rate2048 {rate}: base graph {plan_of_block(program, rate, text)['graph']}")
     if name == "Graph":
         try:
             lines += [

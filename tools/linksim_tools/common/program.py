@@ -98,6 +98,12 @@ def plan_of(line: str) -> dict[str, int]:
     return {name: int(number) for name, number in zip(words[2::2], words[3::2])}
 
 
+def plan_of_block(program: pathlib.Path, rate2048: int, block: str, of: str = "") -> dict[str, int]:
+    """The numbers of a block of these hexadecimal digits, as the program cuts it."""
+    words = ["cut", "--rate", str(rate2048), "--blocks", "-"]
+    return plan_of(output_of(program, words, f"{block}\n".encode(), of).partition("\n")[0])
+
+
 def settings_text(rate2048: int, lbrm: int | None = None) -> str:
     """The settings file of a code rate, and maybe of a limit of the buffer."""
     return f"rate2048 = {rate2048}\n" + ("" if lbrm is None else f"lbrm = {lbrm}\n")

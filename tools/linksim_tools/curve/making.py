@@ -8,7 +8,7 @@ import pathlib
 import typing
 
 from linksim_tools.common import rate_matching
-from linksim_tools.common.program import output_of, plan_of
+from linksim_tools.common.program import plan_of_block
 from linksim_tools.curve import chunks
 from linksim_tools.curve.chunks import MOST_TRANSMISSIONS, block_of, rounds_of_chunk, seed_of
 from linksim_tools.curve.draws import counting, threshold_of
@@ -44,8 +44,7 @@ class Shape:
 
 def shape_of(setting: Setting, program: pathlib.Path) -> Shape:
     """The code blocks of a setting, as the program cuts its block."""
-    words = ["cut", "--rate", str(setting.rate2048), "--blocks", "-"]
-    plan = plan_of(output_of(program, words, (block_of(setting) + "\n").encode()).partition("\n")[0])
+    plan = plan_of_block(program, setting.rate2048, block_of(setting))
     lengths = rate_matching.lengths(setting.g, setting.qm, setting.nl, range(plan["c"]))
     return Shape(plan["kdash"], tuple(lengths.values()))
 

@@ -10,7 +10,7 @@ import typing
 
 from linksim_tools.common import files, rate_matching
 from linksim_tools.common.graphs import GRAPHS
-from linksim_tools.common.program import Failed, output_of, plan_of
+from linksim_tools.common.program import Failed, plan_of_block
 from linksim_tools.conform.code import entries_of
 from linksim_tools.curve.chunks import block_of
 from linksim_tools.curve.pool import binomial, window
@@ -54,8 +54,7 @@ def code_of(setting: Setting, program: pathlib.Path) -> Code:
     """The code of a setting over erasures; over flips there is no limit and no stopping set to speak of."""
     if setting.link != "erase":
         raise Failed(f"{setting.path} flips bits: limits and stopping sets are those of erasures")
-    words = ["cut", "--rate", str(setting.rate2048), "--blocks", "-"]
-    plan = plan_of(output_of(program, words, (block_of(setting) + "\n").encode()).partition("\n")[0])
+    plan = plan_of_block(program, setting.rate2048, block_of(setting))
     return Code(plan, rows_of_table(setting.table, plan["graph"]))
 
 

@@ -11,7 +11,7 @@ import sys
 import typing
 
 from linksim_tools.common import files, toml_file
-from linksim_tools.common.program import Failed, Wrong, output_of
+from linksim_tools.common.program import Failed, Wrong, plan_of_block
 from linksim_tools.conform.bits import from_hex
 from linksim_tools.conform.case import Case, Values
 from linksim_tools.conform.encoder.suite import given as given_of
@@ -50,8 +50,7 @@ def case_of(given: argparse.Namespace, program: pathlib.Path) -> Case:
     if not re.fullmatch(MASK, given.mask):
         raise Failed(f"--mask is all, or numbers and ranges of code blocks, as in '0 2-3': {given.mask}")
     # The program says what is wrong with the digits.
-    words, of = ["cut", "--rate", str(rate), "--blocks", "-"], f"{files.shown(given.blocks)} block {given.block}"
-    output_of(program, words, digits.encode() + b"\n", of)
+    plan_of_block(program, rate, digits, f"{files.shown(given.blocks)} block {given.block}")
     return Case(f"block-{given.block}", from_hex(digits), rate, limit, given.rv, given.g, given.qm, given.nl, given.mask)
 
 
