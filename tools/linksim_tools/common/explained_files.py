@@ -49,10 +49,6 @@ class File:
             except OSError as error:
                 self.trouble = error.strerror or str(error)
 
-    def too_long(self) -> Lines:
-        """What a file has that is longer than the program takes."""
-        return [f"{self.shown}: more than {self.most:,} octets"]
-
     @functools.cached_property
     def text(self) -> str:
         """The text, without a byte order mark."""

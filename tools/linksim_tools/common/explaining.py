@@ -126,7 +126,7 @@ def of_refusal(
     if name == "Read":
         found = [f"{file.shown}: {file.trouble or 'it can be read now'}"]
     elif name == "TooLong":
-        found = file.too_long()
+        found = [f"{file.shown}: more than {file.most:,} octets"]
     elif kind == "schedule":
         found = of_schedule(file, name, place, files["blocks"])
     else:

@@ -22,10 +22,6 @@ class Stopped(Exception):
     """The command answers no more; its text says why."""
 
 
-def any_line(_line: bytes) -> bool:
-    return True
-
-
 class Command:
     """A running command."""
 
@@ -96,7 +92,7 @@ class Command:
             hint = f"its last line is none: {shown(self.left_out[-1])}"
         return f"the command gave no answer for {seconds:g} s; {hint}"
 
-    def answer(self, seconds: float, is_answer: typing.Callable[[bytes], bool] = any_line) -> bytes:
+    def answer(self, seconds: float, is_answer: typing.Callable[[bytes], bool]) -> bytes:
         """The next line of the command that is an answer, for which it has so long; others are left out. It is not given
         while a question is half written."""
         deadline, most = time.monotonic() + seconds, len(self.left_out) + REMARKS

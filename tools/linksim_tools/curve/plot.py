@@ -115,11 +115,6 @@ def range_of(points: list[Line], after: int, theory: typing.Any) -> tuple[float,
     return low - more, high + more
 
 
-def pooled_floor(setting: Setting, pool: Pool, points: list[Line]) -> float:
-    """The lowest share that a picture of pooled rates shows: below those that are wanted, or that plain counts show."""
-    return max(LOWEST, setting.lowest / 10 if setting.width else floor_of(points))
-
-
 def floor_of(points: list[Line]) -> float:
     """The lowest share that the picture shows: below the least that was measured, and the least upper limit."""
     lowest = min(wilson(count, point.rounds)[0 if count else 1] for point in points for count in point.failed)
@@ -151,7 +146,9 @@ def draw(curve: Curve, out: pathlib.Path | typing.IO[bytes]) -> typing.Any:
                 draw_measured(axis, near, after, colour, mark)
         panel.set_xlim(low, high)
         dress_panel(panel, setting, after, (after - 1) % shown == 0)
-    dress(whole, setting, code, pooled_floor(setting, pool, points) if pool else floor_of(points), pool is not None)
+    # A picture of pooled rates goes below those that are wanted.
+    floor = max(LOWEST, setting.lowest / 10) if pool and setting.width else floor_of(points)
+    dress(whole, setting, code, floor, pool is not None)
     trace(figure, [curve.trace()])
     save(figure, out, title_of(setting, code), f"Block error rates after 1 to {count} transmissions, by the {axis_name(setting)}.")
     return theories

@@ -15,16 +15,13 @@ if typing.TYPE_CHECKING:
     from linksim_tools.conform.encoder.suite import Suite
 
 
-def made_with(suite: Suite) -> dict[str, typing.Any]:
-    """What made the files: these tools, of what the head of the suite says that it was made with."""
-    return {**suite.made, "tools": provenance.version_of_tools()}
-
-
 def write(given: Suite, place: str, bus: Bus, form: str) -> None:
     """Writes the folder, and says on standard error what stands there."""
     transmissions = (
         Transmission(case, given.values[case.id], points.covered(case)) for case in given.cases.values()
     )
+    # These tools, of what the head of the suite says that it was made with.
+    made = {**given.made, "tools": provenance.version_of_tools()}
     with folder_at(place) as folder:
-        count = export(folder, bus, form, made_with(given), transmissions)
+        count = export(folder, bus, form, made, transmissions)
     print(f"{place}: {len(given.cases)} cases, {count} code blocks", file=sys.stderr)

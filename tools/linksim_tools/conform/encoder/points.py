@@ -112,13 +112,12 @@ def numbers(
     what: str,
     values: tuple[int, ...],
     read: typing.Callable[..., typing.Any],
-    long: bool = False,
 ) -> list[Point]:
     """A point for each value of a number."""
     def holds(value: int) -> typing.Callable[..., typing.Any]:
         return lambda facts: read(facts) == value
 
-    return [Point(f"{name}-{it}", clause, f"{what} = {it}", holds(it), long) for it in values]
+    return [Point(f"{name}-{it}", clause, f"{what} = {it}", holds(it)) for it in values]
 
 
 def crc_points() -> typing.Iterator[Point]:

@@ -164,7 +164,7 @@ class Draft:
                 found[group] = list(numbers.values())
         return found
 
-    def critical(self, wanted: Wanted, rounds: int = ROUNDS, seed: str = "", tries: int = TRIES) -> Draft | None:
+    def critical(self, wanted: Wanted, seed: str, tries: int = TRIES) -> Draft | None:
         """Keeps as little as fixes the block, what is wanted rather; None if whole columns do not fix it."""
         columns = Columns(self.receiver, self.sizes)
         done: dict[tuple[Group, ...], list[Group] | None] = {}
@@ -172,7 +172,7 @@ class Draft:
             groups = self.groups(r, columns)
             signature = tuple(sorted(groups))
             if signature not in done:
-                done[signature] = self.fewest(columns, groups, wanted, rounds, seed, tries)
+                done[signature] = self.fewest(columns, groups, wanted, seed, tries)
             best = done[signature]
             if best is None:
                 return None
@@ -199,12 +199,12 @@ class Draft:
             yield kept
 
     def fewest(
-        self, columns: Columns, groups: dict[Group, list[int]], wanted: Wanted, rounds: int, seed: str, tries: int
+        self, columns: Columns, groups: dict[Group, list[int]], wanted: Wanted, seed: str, tries: int
     ) -> list[Group] | None:
-        """Those with the fewest values, in no more than so many rounds."""
+        """Those with the fewest values, in no more than ROUNDS rounds."""
         best: tuple[tuple[bool, int], list[Group]] | None = None
         for kept in self.searched(columns, groups, wanted, seed, tries):
-            cost = columns.rounds(columns.mask(kept)) > rounds, sum(len(groups[it]) for it in kept)
+            cost = columns.rounds(columns.mask(kept)) > ROUNDS, sum(len(groups[it]) for it in kept)
             if best is None or cost < best[0]:
                 best = cost, kept
             if best[0] <= (False, len(self.sizes.info)):
