@@ -13,11 +13,6 @@ from ports import free_ports, wait_for
 PROGRAMS = ("dask-scheduler", "dask-worker")
 
 
-def missing() -> str | None:
-    """A program that is not there."""
-    return next((name for name in PROGRAMS if not shutil.which(name)), None)
-
-
 class Scheduler:
     """The scheduler, and its workers by number."""
 

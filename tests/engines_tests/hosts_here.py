@@ -9,8 +9,8 @@ import subprocess
 import tempfile
 
 from ports import free_ports, wait_for
-from running import kill
-from slurm_here import path_with_sbin, steps_below
+from running import kill, path_with_sbin
+from slurm_here import steps_below
 
 PROGRAMS = ("sshd", "ssh", "ssh-keygen", "parallel")
 NAMES = ("one", "two", "three")
@@ -33,11 +33,6 @@ UserKnownHostsFile /dev/null
 StrictHostKeyChecking no
 LogLevel ERROR
 """
-
-
-def missing() -> str | None:
-    """A program that is not there."""
-    return next((name for name in PROGRAMS if not shutil.which(name, path=path_with_sbin())), None)
 
 
 class Hosts:

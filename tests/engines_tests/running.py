@@ -118,7 +118,13 @@ def kill(pid: int) -> None:
         os.kill(pid, 9)
 
 
-def skip_without(what: str | None) -> None:
-    """Skips a class of tests if a program is not there."""
-    if what:
-        raise unittest.SkipTest(f"{what} is not there")
+def path_with_sbin() -> str:
+    """The environment's PATH with the folders of daemons, which a user's may lack."""
+    return os.pathsep.join([os.environ["PATH"], "/usr/sbin", "/sbin"])
+
+
+def skip_without(programs: typing.Sequence[str]) -> None:
+    """Skips a test, or a class of tests, if one of these programs is not there."""
+    missing = next((name for name in programs if not shutil.which(name, path=path_with_sbin())), None)
+    if missing:
+        raise unittest.SkipTest(f"{missing} is not there")

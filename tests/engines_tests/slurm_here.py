@@ -11,7 +11,7 @@ import tempfile
 import time
 
 from ports import free_ports
-from running import kill
+from running import kill, path_with_sbin
 
 PROGRAMS = ("munged", "slurmctld", "slurmd", "sbatch", "squeue", "scancel", "sinfo")
 
@@ -48,16 +48,6 @@ NodeName=n1 NodeHostname=localhost NodeAddr=127.0.0.1 Port={ports[1]} CPUs=2
 NodeName=n2 NodeHostname=localhost NodeAddr=127.0.0.1 Port={ports[2]} CPUs=2
 PartitionName=main Nodes=n1,n2 Default=YES MaxTime=INFINITE State=UP
 """
-
-
-def path_with_sbin() -> str:
-    """The environment's PATH with the folders of daemons, which a user's may lack."""
-    return os.pathsep.join([os.environ["PATH"], "/usr/sbin", "/sbin"])
-
-
-def missing() -> str | None:
-    """A program of Slurm that is not there."""
-    return next((name for name in PROGRAMS if not shutil.which(name, path=path_with_sbin())), None)
 
 
 class Cluster:

@@ -6,7 +6,7 @@ import os
 import sys
 import unittest.mock
 
-from dask_here import Scheduler, missing
+from dask_here import PROGRAMS, Scheduler
 from ports import free_ports
 from running import Running, kill, skip_without
 
@@ -14,7 +14,7 @@ from running import Running, kill, skip_without
 class Dask(Running):
     @classmethod
     def setUpClass(cls) -> None:
-        skip_without(missing())
+        skip_without(PROGRAMS)
 
     def scheduler(self, workers: int) -> Scheduler:
         found = Scheduler(workers)

@@ -10,7 +10,7 @@ import dask_here
 import hosts_here
 import shared
 import slurm_here
-from running import Running, kill
+from running import Running, kill, skip_without
 
 # So many rounds a chunk, and so wide an interval, are enough to plan waves of several sizes.
 SMALLER = {"rounds": "200", "chunks": "1000", "width": "0.5", "lowest": "1e-2", "wave": "16"}
@@ -39,13 +39,10 @@ class Same(Running):
         wanted = self.made("--jobs", 1)
         self.assertGreater(wanted.count(b"\n"), 40)
         self.assertEqual(self.made("--jobs", 3, kill_at=20), wanted)
-        engines: list[tuple[str | None, typing.Callable[[], tuple[typing.Any, typing.Mapping[str, str], list[object]]]]] = [
-            (slurm_here.missing(), self.slurm), (hosts_here.missing(), self.ssh), (dask_here.missing(), self.dask),
-        ]
-        for missing, start in engines:
+        engines = (slurm_here.PROGRAMS, self.slurm), (hosts_here.PROGRAMS, self.ssh), (dask_here.PROGRAMS, self.dask)
+        for programs, start in engines:
             with self.subTest(start.__name__):
-                if missing:
-                    self.skipTest(f"{missing} is not there")
+                skip_without(programs)
                 started, environment, words = start()
                 try:
                     kill_at = 20 if start == self.slurm else 0

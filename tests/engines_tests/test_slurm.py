@@ -17,7 +17,7 @@ import shared
 from linksim_tools.common.program import Failed
 from linksim_tools.curve.engines import slurm
 from running import SECONDS, Running, kill, skip_without
-from slurm_here import Cluster, missing
+from slurm_here import PROGRAMS, Cluster
 
 # Stand-ins: the array is over at once to squeue, and its elements run some seconds later, if at all.
 COMMANDS = {
@@ -102,7 +102,7 @@ class Slurm(Running):
 
     @classmethod
     def setUpClass(cls) -> None:
-        skip_without(missing())
+        skip_without(PROGRAMS)
         cls.cluster = Cluster(patience=15)
         cls.addClassCleanup(cls.cluster.close)
 

@@ -25,7 +25,7 @@ CONF = curve_files.text_of("drawn.csv", curve_files.LONG, {"g": 5280, "rvs": [0,
 class Snippets(shared.InFolder):
     @classmethod
     def setUpClass(cls) -> None:
-        skip_without(slurm_here.missing() or hosts_here.missing() or dask_here.missing())
+        skip_without([*slurm_here.PROGRAMS, *hosts_here.PROGRAMS, *dask_here.PROGRAMS])
         if shared.run(["/usr/bin/python3", "-c", "import matplotlib, numpy"])[0]:
             raise unittest.SkipTest("matplotlib and numpy are not there")
         cls.cluster, cls.hosts = slurm_here.Cluster(), hosts_here.Hosts()

@@ -5,7 +5,7 @@ from __future__ import annotations
 import os
 
 import curve_files
-from hosts_here import Hosts, missing
+from hosts_here import PROGRAMS, Hosts
 from running import RULE, Running, skip_without
 
 
@@ -52,7 +52,7 @@ class Ssh(Running):
 
     @classmethod
     def setUpClass(cls) -> None:
-        skip_without(missing())
+        skip_without(PROGRAMS)
 
     def setUp(self) -> None:
         super().setUp()
