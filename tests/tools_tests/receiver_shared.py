@@ -17,12 +17,11 @@ from linksim_tools.conform.receiver import answers as answering
 from linksim_tools.conform.receiver import judged, report, run
 from linksim_tools.conform.receiver import suite as suites
 from linksim_tools.conform.receiver.diagnosis import Diagnosis
-from linksim_tools.conform.receiver.level import MODEL, Level, octets_of
+from linksim_tools.conform.receiver.level import MODEL, Level
 from linksim_tools.conform.receiver.mistakes import receiver_with
 
 if typing.TYPE_CHECKING:
     from linksim_tools.conform.receiver.chain import Receiver
-    from linksim_tools.conform.receiver.told import Answer, Case
 
 FOLDER = shared.EXAMPLES / "receiver"
 
@@ -113,34 +112,19 @@ def side_by_side(
             yield level, words, it.result()
 
 
-def case_of_model(of: suites.Suite, case: Case, *mistakes: str) -> list[Answer | None]:
-    """What the model's receiver with these mistakes answers to a case."""
-    receiver, found = receiver_with(frozenset(mistakes))(of.tables), []
-    for told, values in zip(case.arrivals, case.values):
-        try:
-            found.append(receiver.take(told, octets_of(values)))
-        except judged.FAULTS:
-            found.append(judged.NOTHING)
-    return [*found]
-
-
 def answers_of_kind(kind: type[Receiver], every_level: bool = False, level: Level = MODEL) -> answering.Answers:
     """What such a receiver of the model answers to the suite, its blocks and which code blocks passed or all that it has."""
     found: answering.Answers = {}
     for name, kept in suite().cases.items():
-        receiver, found[name] = kind(suite().tables), []
-        for told, values in zip(kept.case.arrivals, kept.case.values):
-            try:
-                answer = receiver.take(told, octets_of(values, level))
-            except judged.FAULTS:
-                answer = judged.NOTHING
-            found[name].append(answer if every_level else dataclasses.replace(answer, info=None, soft=None))
+        answers = judged.taken(kind(suite().tables), kept.case, level)
+        found[name] = [it if every_level else dataclasses.replace(it, info=None, soft=None) for it in answers]
     return found
 
 
 def answers_of_model(of: suites.Suite, *mistakes: str) -> answering.Answers:
-    """What it answers to a suite."""
-    return {name: case_of_model(of, kept.case, *mistakes) for name, kept in of.cases.items()}
+    """What the model's receiver with these mistakes answers to a suite."""
+    kind = receiver_with(frozenset(mistakes))
+    return {name: [*judged.taken(kind(of.tables), kept.case)] for name, kept in of.cases.items()}
 
 
 def of_model(mistake: str, levels: int = 1) -> Diagnosis:

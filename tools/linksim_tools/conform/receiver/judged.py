@@ -7,7 +7,7 @@ import hashlib
 import typing
 
 from linksim_tools.conform.receiver import steps
-from linksim_tools.conform.receiver.level import octets_of
+from linksim_tools.conform.receiver.level import MODEL, Level, octets_of
 from linksim_tools.conform.receiver.chain import Receiver
 from linksim_tools.conform.receiver.mistakes import receiver_with
 from linksim_tools.conform.receiver.mistakes.listed import STEPS
@@ -68,11 +68,11 @@ def shown(answer: Answer, meant: str, told: Arrival) -> tuple[str, ...]:
     )
 
 
-def taken(receiver: Receiver, case: Case) -> typing.Iterator[Answer]:
+def taken(receiver: Receiver, case: Case, level: Level = MODEL) -> typing.Iterator[Answer]:
     """What a receiver answers to each transmission of a case. What it cannot take, it does not deliver."""
     for told, values in zip(case.arrivals, case.values):
         try:
-            answer = receiver.take(told, octets_of(values))
+            answer = receiver.take(told, octets_of(values, level))
         except FAULTS:
             answer, receiver.faulty = NOTHING, True
         yield answer
