@@ -20,6 +20,7 @@ KINDS = {"conform": (" for encoders", "suite"), "receiver": (" for receivers", "
 numbered_lines = files.numbered_lines
 
 Object = typing.Dict[str, typing.Any]
+Read = typing.TypeVar("Read")
 
 
 def packed(form: str, bits: str) -> Object:
@@ -91,3 +92,21 @@ def head_of(path: str | pathlib.Path, numbered: tuple[int, str], kind: str, want
     whose, made = KINDS[kind]
     others = [f"; it is a suite{it}" for name, (it, _) in KINDS.items() if name in head and name != kind]
     raise Failed(f"{path} is no suite{whose}: its first line is not what {name_of('conform')} {made} writes{''.join(others)}")
+
+
+def suite_of(
+    path: str | pathlib.Path, kind: str, wanted: typing.AbstractSet[str], case_of: typing.Callable[[Object], Read]
+) -> tuple[Object, Tables, dict[str, Read]]:
+    """A suite of a kind: its head, in which this is wanted beside the table and the count, its table, and its cases by id."""
+    lines = numbered_lines(path)
+    head = head_of(path, next(lines, (1, "")), kind, {"table", "cases", *wanted})
+    tables, cases = code.tables_of(path, head["table"]), {}
+    for number, line in lines:
+        value = json_line(path, number, line)
+        try:
+            cases[str(value["id"])] = case_of(value)
+        except (LookupError, TypeError, ValueError, ArithmeticError, AttributeError, lists.Unreadable) as error:
+            raise Failed(f"{path} line {number}: no case of a suite: {error}") from None
+    if len(cases) != head["cases"]:
+        raise Failed(f"{path} is no whole suite: it has {len(cases)} cases of {head['cases']}")
+    return head, tables, cases

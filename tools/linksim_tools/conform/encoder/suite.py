@@ -18,8 +18,7 @@ from linksim_tools.conform.clauses import Impossible
 from linksim_tools.conform.code import TablesKey
 from linksim_tools.conform.encoder import design, plain, points
 from linksim_tools.conform.encoder import program as making
-from linksim_tools.conform.files import (FORMAT, Object, head_of, json_line, listed, made_by, numbered_lines, packed,
-                                         table_of)
+from linksim_tools.conform.files import FORMAT, Object, listed, made_by, numbered_lines, packed, suite_of, table_of
 
 
 def given(case: Case, form: str = "hex") -> Object:
@@ -145,18 +144,7 @@ def case_of(value: Object) -> tuple[Case, Values]:
 
 def read(path: str | pathlib.Path) -> Suite:
     """A suite file."""
-    lines = numbered_lines(path)
-    head = head_of(path, next(lines, (1, "")), "conform", {"table", "cases", "profile"})
-    tables = code.tables_of(path, head["table"])
-    cases, values = {}, {}
-    for number, line in lines:
-        value = json_line(path, number, line)
-        try:
-            case, right = case_of(value)
-        except (LookupError, TypeError, ValueError, ArithmeticError, lists.Unreadable) as error:
-            raise Failed(f"{path} line {number}: no case of a suite: {error}") from None
-        cases[case.id], values[case.id] = case, right
-    if len(cases) != head["cases"]:
-        raise Failed(f"{path} is no whole suite: it has {len(cases)} cases of {head['cases']}")
+    head, tables, found = suite_of(path, "conform", {"profile"}, case_of)
+    cases, values = {name: it for name, (it, _) in found.items()}, {name: it for name, (_, it) in found.items()}
     made = {str(name): str(it) for name, it in head.get("made", {}).items()}
     return Suite(str(path), head["profile"], head.get("seed"), made, TablesKey(tables), cases, values)

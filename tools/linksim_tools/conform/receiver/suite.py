@@ -6,9 +6,8 @@ from __future__ import annotations
 import dataclasses
 import pathlib
 
-from linksim_tools.common.program import Failed
 from linksim_tools.conform import bits as lists
-from linksim_tools.conform import code, files
+from linksim_tools.conform import files
 from linksim_tools.conform.receiver import keeping, steps
 from linksim_tools.conform.receiver.mistakes.listed import DOUBT, STEPS
 from linksim_tools.conform.receiver.judged import Shown
@@ -94,18 +93,6 @@ def case_of(value: files.Object) -> Kept:
 
 def read(path: str | pathlib.Path) -> Suite:
     """A suite file."""
-    lines = files.numbered_lines(path)
-    head = files.head_of(path, next(lines, (1, "")), "receiver", {"table", "cases", "profile", "seed", "made"})
-    tables = steps.Tables(code.tables_of(path, head["table"]))
-    cases = {}
-    for number, line in lines:
-        value = files.json_line(path, number, line)
-        try:
-            kept = case_of(value)
-        except (LookupError, TypeError, ValueError, ArithmeticError, AttributeError) as error:
-            raise Failed(f"{path} line {number}: no case of a suite: {error}") from None
-        cases[kept.case.id] = kept
-    if len(cases) != head["cases"]:
-        raise Failed(f"{path} is no whole suite: it has {len(cases)} cases of {head['cases']}")
+    head, tables, cases = files.suite_of(path, "receiver", {"profile", "seed", "made"}, case_of)
     made = {str(name): str(value) for name, value in head["made"].items()}
-    return Suite(str(path), str(head["profile"]), int(head["seed"]), made, tables, cases)
+    return Suite(str(path), str(head["profile"]), int(head["seed"]), made, steps.Tables(tables), cases)
