@@ -16,7 +16,7 @@ import typing
 import crate_list
 
 ROOT = pathlib.Path(__file__).resolve().parent.parent
-USE = re.compile(r"^(?:ghost )?use Rattle\.(\w+)\.specs\.((?:inside\.)?\w+)\.(?:\{([^}]*)\}|([^\s;{}]+));?", re.MULTILINE)
+USE = re.compile(r"^ *(?:ghost )?use Rattle\.(\w+)\.specs\.((?:inside\.)?\w+)\.(?:\{([^}]*)\}|([^\s;{}]+));?", re.MULTILINE)
 # A `use` line that brings words of several modules, as `use A.{B.c, D.e}`.
 OF_SEVERAL = re.compile(r"^( *(?:ghost )?use )([\w.]+\.)\{([^}]*\.[^}]*)\}", re.MULTILINE)
 HEAD = re.compile(r"^(?:(?:abbrev|unfoldable|opaque) )*pub (?:(?:abbrev|unfoldable|record|data|class) )*(\S+)")
