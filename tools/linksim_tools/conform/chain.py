@@ -5,8 +5,8 @@ from __future__ import annotations
 import dataclasses
 import typing
 
-from linksim_tools.conform.case import Answer, Case, Plan, Tables, Values
-from linksim_tools.conform.clauses import SIZES, Clauses, Impossible, right
+from linksim_tools.conform.case import Answer, Case, Plan, Values
+from linksim_tools.conform.clauses import SIZES, Clauses, Impossible
 from linksim_tools.conform.code import TablesKey, coding_of, encoder_of
 
 # From which names each name is made.
@@ -111,8 +111,3 @@ class Chain:
     def values(self) -> Values:
         """All of them."""
         return Values(**{field.name: self.of(field.name) for field in dataclasses.fields(Values)})
-
-
-def values_of(tables: Tables, case: Case) -> Values:
-    """What is right of a case, by the chain alone."""
-    return Chain(TablesKey(tables), case, right()).values()

@@ -34,13 +34,9 @@ class Record:
         ]
 
 
-def now() -> str:
-    """The date and the time in UTC."""
-    return datetime.datetime.now(datetime.timezone.utc).strftime("%Y-%m-%d %H:%M:%S UTC")
-
-
 def record_of(judged: typing.Sequence[str], suite: typing.Any) -> Record:
     """The record of a command's words, or of a file of answers, with a suite."""
     words = " ".join(map(shlex.quote, judged))
     program, fingerprint = (suite.made.get(name, "unknown") for name in ("program", "fingerprint"))
-    return Record(words, now(), provenance.version_of_tools(), program, fingerprint, suite.path, suite.profile, suite.seed)
+    date = datetime.datetime.now(datetime.timezone.utc).strftime("%Y-%m-%d %H:%M:%S UTC")
+    return Record(words, date, provenance.version_of_tools(), program, fingerprint, suite.path, suite.profile, suite.seed)

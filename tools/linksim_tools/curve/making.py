@@ -66,11 +66,6 @@ class Sending(chunks.Sending):
     first: int
 
 
-def tables(transmissions: int, lengths: int) -> list[list[typing.Counter[int]]]:
-    """For each transmission and each length of code blocks an empty count by erased places."""
-    return [[collections.Counter() for _ in range(lengths)] for _ in range(transmissions)]
-
-
 class Tally:
     """What is counted of a chunk while its rounds are made."""
 
@@ -81,7 +76,9 @@ class Tally:
         count = len(setting.rvs)
         self.failed, self.failed_codeblocks, self.left = [0] * count, [0] * count, [0] * count
         self.group = [shape.sizes().index(length) for length in shape.lengths]
-        self.open_by_erased = tables(count, len(shape.sizes()))
+        # For each transmission and each length of code blocks a count by erased places.
+        self.open_by_erased: list[list[typing.Counter[int]]]
+        self.open_by_erased = [[collections.Counter() for _ in shape.sizes()] for _ in range(count)]
         self.erased: dict[int, list[list[int]]] = {}
 
     def sending(self, turn: int, first: int, count: int) -> Sending:

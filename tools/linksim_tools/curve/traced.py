@@ -62,7 +62,8 @@ class Curve:
         digest = ""
         if code is not None:
             graph, index = code.plan["graph"], code.plan["set"]
-            digest = f" (graph {graph} set {index} {fingerprint.digest(self.program, setting.table, graph, index)})"
+            sent = fingerprint.sent(self.program, setting.table, graph)[index]
+            digest = f" (graph {graph} set {index} {fingerprint.digest_of(sent)})"
         buffer = "" if setting.lbrm is None else f", lbrm {setting.lbrm}"
         rounds = sum(line.rounds for line in self.lines)
         keys = f"rate {setting.rate2048}/2048{buffer}, Qm {setting.qm}, NL {setting.nl}, G {setting.g}"

@@ -40,11 +40,6 @@ def sent(program: pathlib.Path, table: str | pathlib.Path, graph: int) -> list[s
     return [line.split()[3] for line in answers]
 
 
-def digest(program: pathlib.Path, table: str | pathlib.Path, graph: int, index: int) -> str:
-    """The digest of one base graph and set index."""
-    return digest_of(sent(program, table, graph)[index])
-
-
 def digest_of(digits: str) -> str:
     """The digest of what is sent of a block."""
     return hashlib.sha256(digits.encode()).hexdigest()[:DIGITS]

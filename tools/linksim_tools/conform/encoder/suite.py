@@ -13,8 +13,8 @@ from linksim_tools.common.program import Failed, Wrong, name_of
 from linksim_tools.conform import bits as lists
 from linksim_tools.conform import code
 from linksim_tools.conform.case import PLAN, Case, Plan, Tables, Values
-from linksim_tools.conform.chain import values_of
-from linksim_tools.conform.clauses import Impossible
+from linksim_tools.conform.chain import Chain
+from linksim_tools.conform.clauses import Impossible, right
 from linksim_tools.conform.code import TablesKey
 from linksim_tools.conform.encoder import design, plain, points
 from linksim_tools.conform.encoder import program as making
@@ -86,7 +86,7 @@ def judged(
 ) -> typing.Iterator[tuple[Case, Values]]:
     """Each case with what the program makes of it, in no order. The chain of the tools is held to the program."""
     for one in making.made(program, path, cases):
-        values, ours = one.values(), values_of(tables, one.case)
+        values, ours = one.values(), Chain(TablesKey(tables), one.case, right()).values()
         for field in dataclasses.fields(Values):
             if getattr(values, field.name) != getattr(ours, field.name):
                 fault = "this is a fault of the program or of the tool"
