@@ -96,9 +96,9 @@ class Link:
     outcomes: tuple[int, int, int]
 
 
-def by_starts(g: int, qm: int = 2) -> list[chain.Tx]:
+def by_starts(g: int) -> list[chain.Tx]:
     """A transmission from each starting position, of so many bits."""
-    return [chain.Tx(1, rv, g, qm) for rv in (1, 3, 2, 0)]
+    return [chain.Tx(1, rv, g, 2) for rv in (1, 3, 2, 0)]
 
 
 def one_by_one(code_blocks: int, g: int) -> list[chain.Tx]:

@@ -69,10 +69,10 @@ def exchanged(graph: int, one: int, other: int) -> Change:
     return rows_with(change)
 
 
-def entry_missing(graph: int, number: int, place: int) -> Change:
-    """An entry is missing."""
+def entry_missing(graph: int, number: int) -> Change:
+    """The first entry of a row is missing."""
     return rows_with(lambda sizes, rows: [
-        row[:place] + row[place + 1 :] if sizes.graph == graph and n == number else row for n, row in enumerate(rows)
+        row[1:] if sizes.graph == graph and n == number else row for n, row in enumerate(rows)
     ])
 
 
@@ -197,8 +197,8 @@ HELD_OUT: dict[str, HeldOut] = {
     "entry-of-row-0-of-2": HeldOut("rows", shifted(2, 0, 1, 1), "row 0 of base graph 2 is needed"),
     "entry-of-row-6-of-2": HeldOut("rows", shifted(2, 6, 0, 1), "row 6 of base graph 2 is needed"),
     "entry-of-set-3": HeldOut("rows", shifted(2, 5, 0, 1, [3]), "row 5 of base graph 2 is needed"),
-    "entry-missing-of-1": HeldOut("rows", entry_missing(1, 5, 0), "row 5 of base graph 1 is needed"),
-    "entry-missing-of-2": HeldOut("rows", entry_missing(2, 7, 0), "row 7 of base graph 2 is needed"),
+    "entry-missing-of-1": HeldOut("rows", entry_missing(1, 5), "row 5 of base graph 1 is needed"),
+    "entry-missing-of-2": HeldOut("rows", entry_missing(2, 7), "row 7 of base graph 2 is needed"),
     "rows-exchanged": HeldOut("rows", exchanged(2, 4, 5), "row 4 of base graph 2 is needed"),
     "k0-16-for-17": HeldOut("start", starts(1, 1, 16), "rv = 1"),
     "k0-34-for-33": HeldOut("start", starts(1, 2, 34), "k0 of rv 2 in base graph 1 "),

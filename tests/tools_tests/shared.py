@@ -125,10 +125,10 @@ def table_text(entries_by_graph: dict[int, Entries]) -> str:
     return "".join(line + "\n" for line in lines)
 
 
-def drawn_table(folder: typing.Any, graphs: tuple[int, int] | list[int] = (1, 2), seed: int = 0) -> typing.Any:
-    """The path of a table file with drawn numbers for these base graphs."""
-    path = pathlib.Path(folder) / f"table-{'-'.join(map(str, graphs))}-{seed}.csv"
-    path.write_text(table_text({graph: drawn_entries(graph, seed) for graph in graphs}))
+def drawn_table(folder: pathlib.Path) -> pathlib.Path:
+    """The path of a table file with drawn numbers for both base graphs."""
+    path = folder / "drawn.csv"
+    path.write_text(table_text({graph: drawn_entries(graph) for graph in (1, 2)}))
     return path
 
 
