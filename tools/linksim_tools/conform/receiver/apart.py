@@ -41,9 +41,7 @@ def patterns(make: Maker) -> typing.Iterator[Case]:
     known.sort(key=lambda pair: (not pair[0].endswith("rv0"), sum(it.g for it in pair[1])))
     for name, arrivals in known:
         for wanted in ("early", "even"):
-            found = plain.plain(make, name, arrivals, wanted)
-            if found is not None:
-                yield found
+            yield from plain.plain(make, name, arrivals, wanted)
 
 
 def telling(make: Maker, names: list[str], there: set[str]) -> Case | None:

@@ -39,9 +39,7 @@ def patterns(make: Maker, text: str) -> typing.Iterator[Case]:
     known = dict(plain.configurations())
     for word in text.replace("\n", " ").strip().split(","):
         name, wanted = word.split()
-        found = plain.plain(make, name, known[name], wanted)
-        if found is not None:
-            yield found
+        yield from plain.plain(make, name, known[name], wanted)
 
 
 def quick(make: Maker) -> typing.Iterator[Case]:
@@ -57,9 +55,7 @@ def of_sizes(make: Maker) -> typing.Iterator[Case]:
     """A case for each lifting size that a block reaches."""
     for turn, ((graph, z), (smallest, largest, rate)) in enumerate(first_sizes().items()):
         a, wanted = (largest, smallest)[turn % 2], plain.OTHERWISE[turn % 3]
-        found = plain.plain(make, f"lifting-{graph}-{z}", sized(a, rate, [0], 0.9, qm=(1, 2, 4, 6, 8)[turn % 5]), wanted)
-        if found is not None:
-            yield found
+        yield from plain.plain(make, f"lifting-{graph}-{z}", sized(a, rate, [0], 0.9, qm=(1, 2, 4, 6, 8)[turn % 5]), wanted)
 
 
 def of_many_processes(make: Maker) -> Case:
@@ -76,13 +72,9 @@ def of_many_code_blocks(make: Maker) -> typing.Iterator[Case]:
     """Cases of 3 to 10 code blocks, and the longest blocks."""
     for count in range(3, 11):
         arrivals = sized(3656 * count - 24, 512, [count % 4], 0.95, qm=2, over=count // 2)
-        found = plain.plain(make, f"code-blocks-{count}", arrivals, "early")
-        if found is not None:
-            yield found
+        yield from plain.plain(make, f"code-blocks-{count}", arrivals, "early")
     for name, a, rate, part in LONGEST:
-        found = plain.plain(make, name, sized(a, rate, [0], part), "early")
-        if found is not None:
-            yield found
+        yield from plain.plain(make, name, sized(a, rate, [0], part), "early")
 
 
 def full(make: Maker) -> typing.Iterator[Case]:
@@ -91,9 +83,7 @@ def full(make: Maker) -> typing.Iterator[Case]:
     yield of_many_processes(make)
     for name, arrivals in plain.configurations():
         for wanted in ("early", "late", "even"):
-            found = plain.plain(make, name, arrivals, wanted)
-            if found is not None:
-                yield found
+            yield from plain.plain(make, name, arrivals, wanted)
     yield from of_sizes(make)
     yield from of_many_code_blocks(make)
 

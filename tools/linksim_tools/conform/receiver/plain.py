@@ -112,25 +112,23 @@ def about(arrivals: list[Arrival], wanted: str) -> str:
     return f"{it.a} bits by {sent}{limit}; what arrives is needed, {wanted.replace('-', ' ')} columns first"
 
 
-def plain(make: Maker, name: str, arrivals: list[Arrival], wanted: str) -> Case | None:
-    """A case of these transmissions, or None if no pattern is found."""
+def plain(make: Maker, name: str, arrivals: list[Arrival], wanted: str) -> typing.Iterator[Case]:
+    """A case of these transmissions, if a pattern is found."""
     for order in (wanted, *(it for it in OTHERWISE if it != wanted)):
         try:
             draft = make.draft(f"{name} {wanted}", arrivals, WANTED[order])
         except steps.Impossible:
             continue
-        return make.case(f"{name}-{wanted}", step_of(name), about(arrivals, order), draft)
+        yield make.case(f"{name}-{wanted}", step_of(name), about(arrivals, order), draft)
+        return
     make.leave_out(f"{name}-{wanted}", made.codewords(arrivals[0].a, arrivals[0].rate2048).graph)
-    return None
 
 
 def of_rows(make: Maker) -> typing.Iterator[Case]:
     """Cases that need some parity rows each, which are all of them together."""
     for name, a, rate, qm, windows in ROWS:
         for window in windows:
-            found = plain(make, f"{name}-rows", sized(a, rate, [0], 1.0, qm=qm), f"parity-{window[0]}-to-{window[1]}")
-            if found is not None:
-                yield found
+            yield from plain(make, f"{name}-rows", sized(a, rate, [0], 1.0, qm=qm), f"parity-{window[0]}-to-{window[1]}")
 
 
 def rung(told: Arrival, values: str, bits: str, need: tuple[int, int]) -> Case:
