@@ -7,7 +7,7 @@ import ctypes
 import typing
 
 from ._arrays import fresh
-from ._faults import ROOM, Fault, length_fault
+from ._faults import ROOM, Fault, judge, length_fault
 from ._library import TxStruct, library
 from ._records import Outcome, ReceivedMany, Tx
 from ._table import Table, entries_of
@@ -51,10 +51,8 @@ def send_many(
     link, count = settings(rate2048, rate1024, rate, lbrm), rows.rows
     if not count:
         return sent
-    status = library.nr_send_many(*entries, ctypes.byref(link), 8 * rows.width, *_listed(structs), count, _at(rows.address),
-                                  count * rows.width, place, count * g)
-    if status:
-        raise Fault(status)
+    judge(library.nr_send_many(*entries, ctypes.byref(link), 8 * rows.width, *_listed(structs), count, _at(rows.address),
+                               count * rows.width, place, count * g))
     return sent
 
 
@@ -79,10 +77,8 @@ def receive_many(
     made = [fresh((rows.count, count), kind) for count, kind in zip(counts, kinds)]
     places = [_at(address) for _, address in made]
     rooms = [it for place, count in zip(places, counts) for it in (place, count * rows.count)]
-    status = library.nr_receive_many(*entries, ctypes.byref(link), a, *_listed(structs), rows.count, rows.place,
-                                     rows.width * rows.count, *rooms)
-    if status:
-        raise Fault(status)
+    judge(library.nr_receive_many(*entries, ctypes.byref(link), a, *_listed(structs), rows.count, rows.place,
+                                  rows.width * rows.count, *rooms))
     outcomes, left, blocks = (array for array, _ in made)
     after, _ = fresh((rows.count,))
     after[:] = [ends.index(Outcome.DELIVERED) + 1 if Outcome.DELIVERED in ends else 0 for ends in outcomes.tolist()]
