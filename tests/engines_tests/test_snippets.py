@@ -4,7 +4,6 @@ from __future__ import annotations
 
 import re
 import subprocess
-import unittest
 
 import curve_files
 import dask_here
@@ -26,8 +25,7 @@ class Snippets(shared.InFolder):
     @classmethod
     def setUpClass(cls) -> None:
         skip_without([*slurm_here.PROGRAMS, *hosts_here.PROGRAMS, *dask_here.PROGRAMS])
-        if shared.run(["/usr/bin/python3", "-c", "import matplotlib, numpy"])[0]:
-            raise unittest.SkipTest("matplotlib and numpy are not there")
+        shared.needs_matplotlib()
         cls.cluster, cls.hosts = slurm_here.Cluster(), hosts_here.Hosts()
         cls.addClassCleanup(cls.cluster.close)
         cls.addClassCleanup(cls.hosts.close)

@@ -68,6 +68,12 @@ def needs_tomllib() -> None:
         raise unittest.SkipTest("Python 3.11 is not there")
 
 
+def needs_matplotlib() -> None:
+    """Skips a test in which Debian's Python draws."""
+    if run(["/usr/bin/python3", "-c", "import matplotlib, numpy"])[0]:
+        raise unittest.SkipTest("matplotlib and numpy are not there")
+
+
 def linksim(*words: object, stdin: bytes = b"", folder: pathlib.Path | None = None) -> str:
     """The program's standard output for these words, in text; a failure is a failed test."""
     status, output, error = run([program(), *words], stdin, folder)

@@ -42,8 +42,7 @@ class Made(shared.InFolder):
 
     def setUp(self) -> None:
         super().setUp()
-        if shared.run(["/usr/bin/python3", "-c", "import matplotlib, numpy"])[0]:
-            self.skipTest("matplotlib and numpy are not there")
+        shared.needs_matplotlib()
         self.conf, self.results = self.file("c.toml", CONF), self.folder / "c.csv"
 
     def curve(self, *words: object) -> str:

@@ -65,9 +65,7 @@ class Theory(Conf):
 
 class Picture(Conf):
     def test_the_picture_and_what_it_prints(self) -> None:
-        status, _, _ = shared.run(["/usr/bin/python3", "-c", "import matplotlib, numpy"])
-        if status:
-            self.skipTest("matplotlib and numpy are not there")
+        shared.needs_matplotlib()
         self.file("c.csv", "0.2,0,40,1,40,3,40,3,900,9\n0.1,0,40,1,21,0,21,0,200,0\n0.05,0,40,1,0,0,0,0,0,0\n")
         # From a folder that the program isn't below: else its path is written as it is seen from there.
         said = self.curve("plot", self.conf, self.folder / "c.svg", folder=self.folder)
@@ -93,8 +91,7 @@ class Picture(Conf):
 
     def test_results_of_another_curve(self) -> None:
         """Another table or another key is another curve; another program is not."""
-        if shared.run(["/usr/bin/python3", "-c", "import matplotlib, numpy"])[0]:
-            self.skipTest("matplotlib and numpy are not there")
+        shared.needs_matplotlib()
         line, (program, table, keys) = "0.2,0,40,1,40,3,40,3,900,9", self.source().split("-")
         out = self.folder / "c.svg"
         for source, said in ((f"{program}-{table}-0000", "one of the keys a, "), (f"0000-0000-{keys}", "the table differs")):

@@ -49,8 +49,7 @@ class Lines(Conf):
 
     def test_pictures(self) -> None:
         """In no folder, of no form, and in a file that is full."""
-        if shared.run(["/usr/bin/python3", "-c", "import matplotlib, numpy"])[0]:
-            self.skipTest("matplotlib and numpy are not there")
+        shared.needs_matplotlib()
         self.file("c.csv", "0.2,0,40,1,40,3,40,3,900,9\n0.1,0,40,1,21,0,21,0,200,0\n")
         for name in ("x.xyz", "x", "."):
             self.assertIn(f"{self.folder / name}: ", self.refused("plot", self.conf, self.folder / name))
