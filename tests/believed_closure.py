@@ -13,9 +13,8 @@ import pathlib
 import re
 import typing
 
-import crate_list
+from crate_list import ROOT, crates_and_direct
 
-ROOT = pathlib.Path(__file__).resolve().parent.parent
 USE = re.compile(r"^ *(?:ghost )?use Rattle\.(\w+)\.specs\.((?:inside\.)?\w+)\.(?:\{([^}]*)\}|([^\s;{}]+));?", re.MULTILINE)
 # A `use` line that brings words of several modules, as `use A.{B.c, D.e}`.
 OF_SEVERAL = re.compile(r"^( *(?:ghost )?use )([\w.]+\.)\{([^}]*\.[^}]*)\}", re.MULTILINE)
@@ -138,7 +137,7 @@ def closure(roots: typing.Iterable[Word]) -> set[Word]:
 
 def reading_order(words: set[Word]) -> typing.Iterator[tuple[str, str, list[Definition]]]:
     """(crate, module, definitions) for the specifications that define these words, each after those that it cites."""
-    for crate in (name for name in crate_list.crates_and_direct() if any(word.crate == name for word in words)):
+    for crate in (name for name in crates_and_direct() if any(word.crate == name for word in words)):
         for module in modules_in_order(crate):
             those = [it for it in definitions(crate, module) if it.word in words]
             if those:
