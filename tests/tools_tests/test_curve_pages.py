@@ -10,6 +10,7 @@ import shutil
 import browser
 import curve_files
 import shared
+from test_curve import Conf
 
 # A curve of one transmission over the practice table; its first interval is wide, so that a few chunks do.
 RULE = {"rounds": 200, "points": [0.02, 0.2, 0.4, 0.6], "step": 0.05, "width": 0.5, "lowest": 0.01, "chunks": 20}
@@ -37,19 +38,15 @@ class Page(html.parser.HTMLParser):
             self.asked.append(tag)
 
 
-class Made(shared.InFolder):
+class Made(Conf):
     """With the results of a whole run."""
+
+    text = CONF
 
     def setUp(self) -> None:
         super().setUp()
         shared.needs_matplotlib()
-        self.conf, self.results = self.file("c.toml", CONF), self.folder / "c.csv"
-
-    def curve(self, *words: object) -> str:
-        """What the tool writes."""
-        status, output, error = shared.tool("curve", *words)
-        self.assertEqual(status, 0, error)
-        return output
+        self.results = self.folder / "c.csv"
 
     def test_from_estimate_to_report(self) -> None:
         """A run with `width` ends where the intervals are as narrow as they were wanted; the rest reads its results."""
