@@ -280,7 +280,8 @@ class Counted(unittest.TestCase):
     def test_with_numpy_and_without(self) -> None:
         """Both count the same places, code block by code block."""
         draw = random.Random(6)
-        for lengths in ([120], [8192], [8193], [20_000], [8, 16, 16], [3000] * 7, [1] * 5):
+        some = [[120], [8192], [8193], [20_000], [8, 16, 16], [3000] * 7, [1] * 5]
+        for lengths in (*some, [0, 0, 8], [0, 9], [8, 0, 0, 16], [8, 0], [9000, 0, 0], [0, 5, 0, 5, 0]):
             one, other = draws.ArrayCounting(lengths, numpy), draws.PlainCounting(lengths)
             for threshold in (0, 1, 2**31, 2**32 - 1, draw.randrange(2**32)):
                 seed = draw.randrange(2**64)

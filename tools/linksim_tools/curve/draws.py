@@ -64,7 +64,10 @@ class ArrayCounting:
 
     def __init__(self, lengths: typing.Sequence[int], numpy: typing.Any) -> None:
         self.numpy, self.total = numpy, sum(lengths)
-        self.starts = [0, *itertools.accumulate(lengths)][:-1]
+        # Of the code blocks that have places: reduceat can't add up none.
+        starts, self.blocks = [0, *itertools.accumulate(lengths)], len(lengths)
+        self.filled = [block for block, length in enumerate(lengths) if length]
+        self.starts = [starts[block] for block in self.filled]
         size = min(self.total, AT_A_TIME)
         factors, steps = [1], [0]
         for _ in range(size):
@@ -113,9 +116,11 @@ class ArrayCounting:
             erased = self.erased[start : start + AT_A_TIME]
             self.numpy.less(self.draw(state, len(erased)), self.numpy.uint32(threshold), out=erased)
             state = (state * self.jump[0] + self.jump[1]) & MOST
-        if len(self.starts) == 1:
+        if self.blocks == 1:
             return [int(self.numpy.count_nonzero(self.erased))]
-        counts: list[int] = self.numpy.add.reduceat(self.erased, self.starts, dtype=self.numpy.int64).tolist()
+        found = self.numpy.zeros(self.blocks, self.numpy.int64)
+        found[self.filled] = self.numpy.add.reduceat(self.erased, self.starts, dtype=self.numpy.int64)
+        counts: list[int] = found.tolist()
         return counts
 
 
