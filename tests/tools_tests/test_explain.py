@@ -96,6 +96,16 @@ class Names(shared.InFolder):
             said = shared.refused(str(words[0]), *words[1:], "--program", killed, with_program=False)
             self.assertIn(f"{killed} ended with status -4", said)
 
+    def test_another_program(self) -> None:
+        """Each tool says so, whatever that program would answer."""
+        other = self.file("other", "#!/bin/sh\necho another 1.0\n")
+        other.chmod(0o755)
+        tools = [["explain", "check", "--table", TABLE], ["vectors", "--near", 8], ["conform", "suite", "--table", TABLE],
+                 ["curve", "limits", shared.EXAMPLES / "curve.toml"], ["table", "fingerprint", TABLE]]
+        for tool, *words in tools:
+            said = shared.refused(str(tool), *words, "--program", other, with_program=False, status=2)
+            self.assertEqual(said, f"tools/{tool}: {other} is no program linksim: it answers 'another 1.0' to --version\n")
+
     def test_about(self) -> None:
         """Which program it is."""
         output = shared.made("explain", "about")

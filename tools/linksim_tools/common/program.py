@@ -64,7 +64,7 @@ def is_program(path: pathlib.Path) -> bool:
 
 
 def program_at(name: str | None = None) -> pathlib.Path:
-    """The absolute path of the program, or a failure that says how to build it."""
+    """The absolute path of the program, or a failure that says how to build it. What names itself otherwise is refused."""
     if name is None:
         found = next((str(path) for path in PLACES if is_program(path)), None) or shutil.which("linksim")
         said = "no program linksim beside the tools or in PATH; name one by --program, or build it"
@@ -74,7 +74,11 @@ def program_at(name: str | None = None) -> pathlib.Path:
         said = f"no program at {path.resolve()}; this builds it"
     if not found:
         raise Failed(f"{said}, from the repository's top: {BUILD}")
-    return pathlib.Path(found).resolve()
+    program = pathlib.Path(found).resolve()
+    said = output_of(program, ["--version"]).partition("\n")[0]
+    if not said.startswith("linksim "):
+        raise Wrong(f"{program} is no program linksim: it answers {said!r} to --version")
+    return program
 
 
 def output_of(
