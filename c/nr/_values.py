@@ -2,6 +2,7 @@
 
 from __future__ import annotations
 
+import contextlib
 import ctypes
 import fractions
 import functools
@@ -52,9 +53,10 @@ def number(name: str, given: Count, most: int = 2**32 - 1) -> int:
 
 def _float_of(name: str, given: typing.SupportsFloat) -> float:
     """A number of any kind; else an error that names the argument."""
-    if not hasattr(given, "__float__"):
-        raise TypeError(f"{name} is {given!r}, and not a number")
-    return float(given)
+    if hasattr(given, "__float__"):
+        with contextlib.suppress(TypeError):  # an array of several
+            return float(given)
+    raise TypeError(f"{name} is {given!r}, and not a number")
 
 
 def _fraction(name: str, given: typing.SupportsFloat) -> fractions.Fraction:
@@ -110,7 +112,11 @@ def _settings(rate2048: typing.Any, rate1024: typing.Any, rate: typing.Any, lbrm
 
 def settings(rate2048: Rate2048, rate1024: Rate1024, rate: Rate, lbrm: Count) -> SettingsStruct:
     """The settings of a link. No call writes them, so that calls and threads may share them."""
-    return _settings(rate2048, rate1024, rate, lbrm)  # type: ignore[arg-type]
+    try:
+        return _settings(rate2048, rate1024, rate, lbrm)  # type: ignore[arg-type]
+    except TypeError:
+        pass  # (an array has no hash)
+    return _settings.__wrapped__(rate2048, rate1024, rate, lbrm)
 
 
 @functools.lru_cache(maxsize=256)

@@ -199,6 +199,7 @@ class Given(built.OfModule):
             (lambda: nr.plan(8448.0, rate=0.5), "a is 8448.0, and not a whole number"),
             (lambda: nr.plan(8448, rate="1/2"), "rate is '1/2', and not a number"),
             (lambda: nr.plan(8, rate1024=[1]), "rate1024 is"),
+            (lambda: nr.send(self.table, BLOCK, self.tx, rate=[0.5]), r"rate is \[0\.5\], and not a number"),
             (lambda: nr.Tx(300, qm="QPSK"), "qm is 'QPSK'"),
             (lambda: nr.buffer(8, None, **RATE), "rv is None"),
             (lambda: nr.send(self.table, BLOCK, self.tx, rate=1, lbrm=0.5), "lbrm is 0.5"),
@@ -284,3 +285,5 @@ class Numpy(unittest.TestCase):
         self.assertEqual(nr.send(table, numpy.packbits(bits), tx, **RATE), sent)
         self.assertWarnsRegex(UserWarning, "packbits", nr.send, table, bits, nr.Tx(400), rate2048=512)
         self.assertEqual(nr.Tx(numpy.int64(104), blocks=numpy.arange(3)).blocks, (0, 1, 2))
+        self.assertEqual(nr.send(table, BLOCK, tx, rate=numpy.array(1.0)), sent)
+        self.assertRaisesRegex(TypeError, "rate is array", nr.send, table, BLOCK, tx, rate=numpy.array([0.5, 1.0]))
