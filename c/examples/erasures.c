@@ -16,7 +16,9 @@ static uint32_t read_table(const char *path, NrEntry **entries, size_t *count) {
     uint32_t status;
     if (!file) return NR_READ;
     length = fread(text, 1, sizeof text, file);
+    status = ferror(file) ? NR_READ : NR_OK;
     fclose(file);
+    if (status) return status;
     /* A room for none: how many are wanted. */
     status = nr_table_entries(text, length, NULL, 0, count);
     if (status != NR_ROOM) return status;
