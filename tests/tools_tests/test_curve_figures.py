@@ -81,7 +81,9 @@ class Harq(unittest.TestCase):
         self.assertAlmostEqual(low, 0.1, delta=1e-5)
         self.assertAlmostEqual(high, 0.2, delta=1e-5)
         self.assertEqual(by_target[1e-3, 1], [None, None, None])
-
+        # Nothing failed at 0.1, and surely more at 0.2: where between them the rate is the target nothing tells.
+        self.assertEqual((by_target[1e-3, 2][:2], rates.at(0.15, 2).estimate), ([None, None], 0))
+        self.assertAlmostEqual(by_target[1e-3, 2][2], 0.2, delta=1e-5)
 
     def test_code_blocks_that_fail_together(self) -> None:
         """Over bursts ten code blocks may tell no more than one; and nothing is told beyond the points."""

@@ -73,9 +73,9 @@ def throughput(setting: Setting, rates: Rates, p: float) -> Ends:
 
 def crossing(ends: typing.Callable[[float], Ends], seat: int, points: list[float], target: float) -> float | None:
     """The last probability up to which an end of a rate's interval is at most the target, if it is so somewhere and not
-    everywhere."""
+    everywhere. An estimate (seat 0) that is 0 there was not measured, and tells none."""
     last = next((at for at in range(len(points) - 1, -1, -1) if ends(points[at])[seat] <= target), None)
-    if last is None or last + 1 == len(points):
+    if last is None or last + 1 == len(points) or not seat and not ends(points[last])[0]:
         return None
     low, high = points[last], points[last + 1]
     while high - low > EXACT:

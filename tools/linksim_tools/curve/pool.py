@@ -39,8 +39,8 @@ NOTHING_SEEN = gamma_quantile(1.0, 1 - TAIL)
 UNSEEN = 2.0
 
 
-# Beyond the first rate a point's own share is looked at too. Of none below the other one a logarithm is taken.
-MOSTLY, LEAST = 0.5, 1e-12
+# Beyond this rate a point's own share is looked at too.
+MOSTLY = 0.5
 
 
 @dataclasses.dataclass(frozen=True)
@@ -299,7 +299,8 @@ class Plain:
         self.points, self.apart = totals(lines), apart
 
     def at(self, p: float, after: int, tail: float = TAIL, of_blocks: bool = False) -> Estimate:
-        """The block error rate. Between two points it is somewhere between their rates; the estimate is on the line between."""
+        """The block error rate. Between two points it is somewhere between their rates. The estimate is on the line between their
+        logarithms, and 0 if nothing failed at one of them."""
         known = {line.p: line for line in self.points}
         if p in known:
             return plain_estimate(known[p], after, tail, of_blocks, self.apart)
@@ -308,8 +309,7 @@ class Plain:
         low, high = max(q for q in known if q < p), min(q for q in known if q > p)
         first, last = (plain_estimate(known[q], after, tail, of_blocks, self.apart) for q in (low, high))
         share = (p - low) / (high - low)
-        logs = [math.log(max(one.estimate, LEAST)) for one in (first, last)]
-        between = math.exp(logs[0] + share * (logs[1] - logs[0])) if last.estimate else 0.0
+        between = first.estimate ** (1 - share) * last.estimate**share
         return dataclasses.replace(first, p=p, estimate=between, low=first.low, high=last.high, low_if=None, high_if=None)
 
     def code_blocks_at(self, p: float, after: int, tail: float = TAIL) -> Estimate:
