@@ -245,6 +245,12 @@ class Runs(Conf):
         found = {line.split(",")[0] for line in out.read_text().splitlines()[1:]}
         self.assertEqual(found, {"0.2", "0.3", "0.4"})
 
+    def test_a_refused_run_leaves_no_file(self) -> None:
+        before = set(self.folder.iterdir())
+        self.conf.write_text(CONF.replace("g = 120", "g = 121"))
+        self.assertIn("Ragged", shared.refused("curve", "run", self.conf, "--jobs", "2", lines=2))
+        self.assertEqual(set(self.folder.iterdir()), before)
+
     def test_an_estimate_of_very_many_chunks(self) -> None:
         """It makes the first points alone too. Without a log nobody knows how long a chunk takes."""
         self.conf.write_text(CONF.replace("= 20", "= 1_000_000").replace("chunks = 2", "chunks = 1_000_000"))

@@ -160,11 +160,17 @@ class Kept:
 
 @contextlib.contextmanager
 def kept(call: Call, out: pathlib.Path) -> typing.Iterator[Kept]:
-    """The file of results of a run, and what is in it."""
+    """The file of results of a run, and what is in it. A failure that comes ahead of the first chunk leaves no new file."""
+    new = [path for path in (out, log_of(out)) if not path.exists()]
     with results_file(out) as file:
         found = Kept(call, out, file, merged([out]), Costs())
-        found.begin()
-        yield found
+        try:
+            found.begin()
+            yield found
+        except Failed:
+            for path in [] if found.lines or found.costs.sums else new:
+                path.unlink(missing_ok=True)
+            raise
 
 
 def run(setting: Setting, program: pathlib.Path, out: pathlib.Path, engine: Engine, only_estimate: bool = False) -> None:
