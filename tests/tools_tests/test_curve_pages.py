@@ -120,6 +120,8 @@ class Made(Conf):
             self.curve("plot", self.conf, self.folder / name)
         self.assertEqual((self.folder / "1.svg").read_bytes(), (self.folder / "2.svg").read_bytes())
         self.assertGreater(os.path.getsize(self.folder / "1.svg"), 10_000)
+        refused = shared.refused("curve", "plot", self.conf, self.folder / "1.foo", status=2)
+        self.assertRegex(refused, r"1\.foo: the ending of a picture is one of .*, pdf, .*png, .*svg,")
         other = self.file("d.toml", CONF)
         shutil.copy(self.results, self.folder / "d.csv")
         self.curve("plot", self.conf, self.folder / "3.svg", self.results, other, self.folder / "d.csv")

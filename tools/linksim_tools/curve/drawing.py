@@ -56,18 +56,19 @@ def trace(figure: typing.Any, lines: typing.Sequence[str]) -> None:
 
 def save(figure: typing.Any, out: pathlib.Path | typing.IO[bytes], title: str, description: str) -> None:
     """Writes the picture: a file of its own, or SVG into what is open. SVG has no date, and says in words what it shows."""
+    from matplotlib.backend_bases import FigureCanvasBase
+
     path = pathlib.Path(out) if isinstance(out, (str, pathlib.Path)) else None
-    try:
-        with named_in_faults(str(out)):
-            if path and path.suffix != ".svg":
-                figure.savefig(path, format=path.suffix[1:])
-                return
-            drawn = io.StringIO()
-            figure.savefig(drawn, format="svg", metadata=dict.fromkeys(("Date", "Creator", "Format", "Type")))
-            text = svg.compact(drawn.getvalue(), title, description).encode()
-            if path:
-                path.write_bytes(text)
-            else:
-                typing.cast("typing.IO[bytes]", out).write(text)
-    except ValueError as error:
-        raise Wrong(f"{out}: {error}") from None
+    if path and path.suffix[1:].lower() not in FigureCanvasBase.filetypes:
+        raise Wrong(f"{out}: the ending of a picture is one of {', '.join(sorted(FigureCanvasBase.filetypes))}")
+    with named_in_faults(str(out)):
+        if path and path.suffix != ".svg":
+            figure.savefig(path, format=path.suffix[1:])
+            return
+        drawn = io.StringIO()
+        figure.savefig(drawn, format="svg", metadata=dict.fromkeys(("Date", "Creator", "Format", "Type")))
+        text = svg.compact(drawn.getvalue(), title, description).encode()
+        if path:
+            path.write_bytes(text)
+        else:
+            typing.cast("typing.IO[bytes]", out).write(text)
