@@ -165,6 +165,9 @@ class Refused(shared.InFolder):
         status, _, error = shared.tool("vectors", "--rv=0")
         self.assertEqual(status, 2)
         self.assertIn("--settings", error)
+        for many in ("--count=1", f"--cases={self.folder}"):
+            said = shared.refused("vectors", *shared.options(shared.INPUTS), "--rv=0", many, "--dir", self.folder / "new", status=2)
+            self.assertIn(": not with --count or --cases, whose vectors have their own: --settings, --blocks, --rv\n", said)
 
 
 class Packings(unittest.TestCase):
