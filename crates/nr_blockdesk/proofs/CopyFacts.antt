@@ -12,6 +12,7 @@ pub taken_more : {X : Type 0} → (xs : List X) (r : ℕ) (x y : X) → x ≡ ge
     → take r xs ++ y ∷ [] ≡ take (r + 1) xs
 taken_more xs r x y read same below = ap (λ z. take r xs ++ z ∷ []) (same ∙ read) ∙ sym (take_more xs r x below)
 
+-- the code blocks of a receiver over a link
 module _ {K : Type 0} (link : Link) (records : List HeardBits) (blocks : List (CodeBlock K))
     (desk : IsDesk link records (peelers_of blocks)) where
   abbrev peeler_in : CodeBlock K → Peeling

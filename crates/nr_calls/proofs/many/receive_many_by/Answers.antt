@@ -1,6 +1,5 @@
 use Rattle.std.proofs.Common.{◌≡◌, ⊎_elim, ◌∙◌, ap, refl, sym, inl, inr, arith, ◌+◌}
-use Rattle.std.proofs.Common.{Err, [], ◌∷◌, length, map}
-use Rattle.std.proofs.Common.{true}
+use Rattle.std.proofs.Common.{Err, [], ◌∷◌, length, map, true}
 use Rattle.std.proofs.lemmas.List.{length-append, map-append}
 use Rattle.std.proofs.lemmas.Result.{err_from_is_err_and}
 use Rattle.nr_blockdesk.specs.Receiving.{ReceiverView}

@@ -5,7 +5,6 @@ use Rattle.nr_peel.proofs.progress.Progress.copy_from.Goals as goal
 -- a list of zeros that is joined to another is that
 pub returns-clause-same : goal.returns-clause-same
 returns-clause-same c =
-    let own = c.args.self.now.given.items in
     let other = c.args.from.now.given.items in
     record {
       given = ext_get_or false c.union_with.new.self.items other
