@@ -154,64 +154,6 @@ merged-step at count before old now bits start s word new so_far step = record {
               (get_or_past s.marks (at + j) false (step.whole j lt high))
         ]
 
--- the words that a step reads and puts if nothing was heard before
-pub record IsFreshStep (at count before now bits : ℕ) (s : Lists) (word : List Bool) (new : Lists) : Type 0 where
-  pub few : count ≤ 64
-  pub none : before ≡ 0
-  pub reads_before : (j : ℕ) → j < 64 → on before j ≡ bit s.heard (at + j)
-  pub reads_now : (j : ℕ) → j < 64 → on now j ≡ bit s.marks (at + j)
-  pub reads_bits : (j : ℕ) → j < 64 → on bits j ≡ bit word (at + j)
-  pub put_heard : IsPut s.heard new.heard at count now
-  pub put_value : IsPut s.value new.value at count bits
-  pub marks : new.marks ≡ s.marks
-  pub clash : new.clash ≡ s.clash
-  pub heard_long : length new.heard ≡ length s.heard
-  pub value_long : length new.value ≡ length s.value
-
-fresh : (h v n b : Bool) → h ≡ false → ◌≡◌ {A = Bool × Bool × Bool} (n, n && b, n) (after_hearing (h, h && v, n) b)
-fresh h v n b e = grind arith
-
-fresh-silent : (h v n b : Bool) → h ≡ false → clashing h (h && v) n b ≡ false
-fresh-silent h v n b e = grind arith
-
-pub merged-fresh : (at count before now bits : ℕ) (start s : Lists) (word : List Bool) (new : Lists) → IsMerged at start word s
-    → IsFreshStep at count before now bits s word new
-    → IsMerged (at + count) start word new
-merged-fresh at count before now bits start s word new so_far step = record {
-  below = λ p h. elim (cases_lt p at) [
-    | inl low ↦ rw (step.put_heard.before p low, step.put_value.before p low, step.marks) (so_far.below p low)
-    | inr from ↦ inside p from h ∙ ap (λ (t : Bool × Bool × Bool). after_hearing t (bit word p)) (so_far.beyond p from)
-  ];
-  beyond = λ p h. rw (step.put_heard.after p h, step.put_value.after p h, step.marks) (so_far.beyond p (omega (arith, h)));
-  quiet = λ e.
-      let first = so_far.quiet (sym step.clash ∙ e) in
-      (first.0, λ p h. elim (cases_lt p at) [ inl low ↦ first.1 p low | inr from ↦ silent p from h ]);
-  silent = λ e f. step.clash ∙ so_far.silent e (λ p h. f p (omega (arith, h)));
-  heard_long = step.heard_long ∙ so_far.heard_long;
-  value_long = step.value_long ∙ so_far.value_long;
-  marks_long = ap (λ l. length l) step.marks ∙ so_far.marks_long;
-}
-  where
-    unheard : (p : ℕ) → at ≤ p → p < at + count → bit s.heard p ≡ false
-    unheard p from below = sym (read-at s.heard at before p step.reads_before from (omega (arith, below, step.few)))
-        ∙ zero-none before (p - at) step.none
-
-    inside : (p : ℕ) → at ≤ p → p < at + count → at_position new p ≡ after_hearing (at_position s p) (bit word p)
-    inside p from below =
-        let here : p < at + 64 = omega (arith, below, step.few) in
-        rw (
-          put-in s.heard new.heard at count now p step.put_heard from below,
-          put-in s.value new.value at count bits p step.put_value from below,
-          step.marks,
-          read-at s.marks at now p step.reads_now from here,
-          read-at word at bits p step.reads_bits from here,
-        ) (fresh (bit s.heard p) (bit s.value p) (bit s.marks p) (bit word p) (unheard p from below))
-
-    silent : (p : ℕ) → at ≤ p → p < at + count → clashes_at (at_position start p) (bit word p) ≡ false
-    silent p from below =
-        ap (λ (t : Bool × Bool × Bool). clashes_at t (bit word p)) (sym (so_far.beyond p from))
-        ∙ fresh-silent (bit s.heard p) (bit s.value p) (bit s.marks p) (bit word p) (unheard p from below)
-
 idle : (h v n b : Bool) → n ≡ false → ◌≡◌ {A = Bool × Bool × Bool} (h, v, n) (after_hearing (h, v, n) b)
 idle h v n b e = grind arith
 

@@ -1,9 +1,9 @@
-//! What was heard of one code block, kept from transmission to transmission. Any redundancy version sends bits of one
-//! codeword (TS 38.212, 5.4.2). `hear` makes the record of the longer list of hearings, by a proved law
-//! (specs/Record.antt). Another law reads off the record which words agree with all that was heard.
+//! The HARQ buffer of one code block: what has been received of it, kept from transmission to transmission. Buffers can be combined
+//! because every redundancy version sends bits of the same codeword (TS 38.212, 5.4.2).
 //!
-//! Inside, a `Store` keeps the first bit heard at each position of the codeword, and whether some position was heard
-//! with both bits. It takes two bits a position.
+//! A `Store` keeps the first bit received at each codeword index and whether any index was received with both bits, which takes two
+//! bits an index. Lemmas (laws.rt) say that this is enough: it determines which codewords are consistent with everything received,
+//! however many transmissions that were (specs/Record.antt).
 #![tactic(auto)]
 
 mod laws;

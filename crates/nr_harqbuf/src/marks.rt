@@ -1,5 +1,5 @@
-//! Marks of what is heard at once. One list of bits marks the positions of the codeword heard, another has the bits
-//! heard there.
+//! Received bits, 64 codeword indexes at a time. One list of bits marks the indexes that were received, another one holds the
+//! bits received there.
 
 ghost use Rattle.std.specs.Prelude.{◌≡◌, ℕ, ◌+◌, ◌≤◌, ◌||◌, ◌↔◌, Bool, not, true, false, length};
 ghost use Rattle.std.specs.Prelude.{IsTrue};
@@ -9,10 +9,9 @@ ghost use Rattle.nr_harqbuf.specs.Marks.{says, word_says};
 use nr_bitvec::words::low_bits;
 use nr_bitvec::{Bits, Marks};
 
-/// Hears up to 64 bits one after another. They are those of the `count` positions from position `at` on that `now`
-/// marks, the lowest bit first, with the bits of `bits`. The first bit of a position stays. Returns whether no position
-/// that was marked before is marked again with the other bit. If so, the lists say what they said and what the words say.
-/// In any case a marked position keeps its bit. Takes no memory.
+/// Merges up to 64 received bits into the lists. Bit i of `now`, for i below `count`, marks codeword index `at` + i as
+/// received, with bit i of `bits`. An index that was marked before keeps its bit. Returns true if no such index is received
+/// again with the other bit; the lists then hold exactly what they held before together with the new bits. Allocates nothing.
 pub fn merge_word(
     heard: &mut Bits,
     value: &mut Bits,
@@ -44,7 +43,7 @@ pub fn merge_word(
     now & before & (old ^ bits) == 0
 }
 
-/// Whether a word of the code has the bit of each marked position. Takes no memory.
+/// Tells whether `word` has the received bit at every marked index. Allocates nothing.
 pub fn agrees(marks: &Marks, word: &Bits) -> bool
     ensures { IsTrue result ↔ ((p : ℕ) → bit marks.now.heard.items p ≡ true
         → bit word.now.items p ≡ bit marks.now.value.items p) }

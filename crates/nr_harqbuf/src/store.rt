@@ -1,4 +1,4 @@
-//! The store of one code block.
+//! The HARQ buffer of one code block.
 
 ghost use Rattle.std.specs.Prelude.{◌≡◌, ℕ, ◌<◌, ◌&&◌, ◌↔◌, Bool, Some, not, [], length, IfOk, IsTrue};
 ghost use Rattle.nr_bitvec.specs.{Bit.bit, Marks.marks_in};
@@ -12,8 +12,8 @@ use nr_segment::Plan;
 use std::alloc::{AllocError, Global};
 use std::marker::Model;
 
-/// What was heard of one code block. It is the bit that was heard first at each position of its codeword, and whether
-/// some position was heard with both bits.
+/// The HARQ buffer of one code block: for each codeword index the bit that was received there first, and whether any index was
+/// received with both bits (a clash).
 #[derive(Drop)]
 pub struct Store {
     marks: Marks,
@@ -31,11 +31,12 @@ impl Model for Store {
 }
 
 impl Store {
-    /// A store in which nothing was heard yet, of one code block of this plan. All memory of its life is taken here.
+    /// Creates an empty buffer for one code block of this plan. It is the only call of a buffer, apart from `try_clone`, that
+    /// allocates.
     ///
     /// # Errors
     ///
-    /// `AllocError`, if memory runs out.
+    /// `AllocError` if an allocation fails.
     pub fn new(alloc: Global, plan: &Plan) -> Result<Store, AllocError>
         ensures { IfOk result (λ store. store ≡ record_of (positions_of plan.now) []) }
     {
@@ -46,19 +47,19 @@ impl Store {
         })
     }
 
-    /// The store of a record that was kept elsewhere. It has a mark for each position of the codeword that was heard, with
-    /// its bit, and says whether some position was heard with both. Any marks are a record. Takes no memory.
+    /// Restores a buffer that was kept elsewhere. `marks` has each codeword index that was received, with its bit, and `clash`
+    /// tells whether any index was received with both bits. Every value of `marks` is a valid buffer. Allocates nothing.
     pub fn of_record(marks: Marks, clash: bool) -> Store
         ensures { result ≡ record_by (marks_in marks) clash }
     {
         Store { marks, clash }
     }
 
-    /// A store of its own in which the same was heard.
+    /// Copies the buffer.
     ///
     /// # Errors
     ///
-    /// `AllocError`, if memory runs out.
+    /// `AllocError` if an allocation fails.
     pub fn try_clone(&self) -> Result<Store, AllocError>
         ensures { IfOk result (λ store. store ≡ self.now) }
     {
@@ -70,15 +71,15 @@ impl Store {
         })
     }
 
-    /// The positions heard, marked, and the bits heard there first.
+    /// Returns which codeword indexes have been received, and the bit that was received first at each of them.
     pub fn marks(&self) -> &Marks
         ensures { IsKeptBy self.now (marks_in result.now) }
     {
         &self.marks
     }
 
-    /// Hears a bit at a position of the codeword. The first bit of a position is kept, and a different one later is a
-    /// clash. Takes no memory.
+    /// Receives a bit at codeword index `pos`. The first bit received at an index is kept; if a later one differs, the buffer has
+    /// a clash. Allocates nothing.
     pub fn hear(&mut self, pos: u32, bit: bool)
         requires { pos < length self.old.first }
         ensures { self.new ≡ with_hearing self.old (pos, bit) }
@@ -92,9 +93,9 @@ impl Store {
         }
     }
 
-    /// Hears all that marks say at once, one mark a position of the codeword. The first bit of a position is kept, and a
-    /// different one later is a clash. Of the marks only the fresh ones stay, of the positions heard for the first time.
-    /// Takes no memory.
+    /// Receives all marked bits at once; `marks` has one entry for each codeword index. The first bit received at an index is kept;
+    /// if a later one differs, the buffer has a clash. On return, `marks` holds only the indexes that were received for the first
+    /// time. Allocates nothing.
     pub fn hear_all(&mut self, marks: &mut Marks)
         requires marks { length marks.old.heard.items ≡ length self.old.first }
         ensures merged { self.new ≡ merge_of self.old (marks_in marks.old) }
@@ -107,17 +108,11 @@ impl Store {
         for i in 0..marks.heard.len().div_ceil(64) {
             let at = 64 * i;
             let now = marks.heard.window(at);
-            // Mostly the positions that a transmission leaves out are together.
+            // A transmission mostly leaves out a run of indexes, so that many words are empty.
             if now != 0 {
                 let count = (marks.heard.len() - at).min(64);
                 let before = self.marks.heard.window(at);
                 let bits = marks.value.window(at);
-                // Mostly nothing was heard there before, and then all of it is fresh.
-                if before == 0 {
-                    self.marks.heard.put(at, count, now);
-                    self.marks.value.put(at, count, bits);
-                    continue;
-                }
                 let old = self.marks.value.window(at);
                 let news = now & !before;
                 self.clash |= now & before & (old ^ bits) != 0;
@@ -128,7 +123,7 @@ impl Store {
         }
     }
 
-    /// The bit that was heard first at a position of the codeword, or `None` if nothing was.
+    /// Returns the bit that was received first at codeword index `pos`, or `None` if nothing has been received there.
     pub fn heard(&self, pos: u32) -> Option<bool>
         requires { pos < length self.now.first }
         ensures { result ≡ first_at self.now pos }
@@ -141,21 +136,21 @@ impl Store {
         }
     }
 
-    /// Whether a word of the code has every bit that was heard first. Takes no memory.
+    /// Tells whether `word` has the bit that was received first at every received index. Allocates nothing.
     pub fn fits(&self, word: &Bits) -> bool
         ensures { IsTrue result ↔ HasFirsts self.now (bit word.now.items) }
     {
         agrees(&self.marks, word)
     }
 
-    /// How many positions the codeword has.
+    /// Returns the length of the codeword, punctured bits included.
     pub fn positions(&self) -> u32
         ensures { result ≡ length self.now.first }
     {
         self.marks.heard.len() as u32
     }
 
-    /// Whether some position was heard with both bits.
+    /// Tells whether any index was received with both bits.
     pub fn clash(&self) -> bool
         ensures { result ≡ self.now.clash }
     {

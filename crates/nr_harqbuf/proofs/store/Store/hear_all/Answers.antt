@@ -1,7 +1,7 @@
 use Rattle.nr_harqbuf.proofs.Common.{◌≡◌, ◌+◌, ◌*◌, min, length, ap, refl, ◌∙◌, arith, HeardBits}
 use Rattle.nr_harqbuf.proofs.KeptBitFacts.{length-kept}
-use Rattle.nr_harqbuf.proofs.MergedListFacts.{merged-idle, merged-fresh, merged-none, merged-step, merged-done, news-done}
-use Rattle.nr_harqbuf.proofs.store.Store.hear_all.Goals.{then-now-ne0+else-before-eq0, else-now-ne0}
+use Rattle.nr_harqbuf.proofs.MergedListFacts.{merged-idle, merged-none, merged-step, merged-done, news-done}
+use Rattle.nr_harqbuf.proofs.store.Store.hear_all.Goals.{then-now-ne0, else-now-ne0}
 use Rattle.nr_harqbuf.proofs.store.Store.hear_all.Goals as goal
 
 pub loop-i-init : goal.loop-i-init
@@ -9,9 +9,6 @@ loop-i-init c = record { merged = merged-none _ _ c.args.marks.now.value.items (
 
 pub put-requires-clause-inside : goal.put-requires-clause-inside
 put-requires-clause-inside c = grind (arith, length-kept)
-
-pub put-requires-then-before-eq0-clause-inside : goal.put-requires-then-before-eq0-clause-inside
-put-requires-then-before-eq0-clause-inside c = grind (arith, length-kept)
 
 pub put-requires-then-now-ne0-clause-inside : goal.put-requires-then-now-ne0-clause-inside
 put-requires-then-now-ne0-clause-inside c = grind (arith, length-kept)
@@ -25,7 +22,7 @@ loop-i-preserved c =
     let here : min (64 * c.loop-i.i) (length c.args.marks.now.heard.items) ≡ 64 * c.loop-i.i =
     omega (arith, c.loop-i-test.true, c.div_ceil-i-end.ensures, c.len.ensures.value) in
     elim c.if-now-ne0.branch [
-      | then-now-ne0+else-before-eq0 w ↦
+      | then-now-ne0 w ↦
           let next : min (64 * (c.loop-i.i + 1)) (length c.args.marks.now.heard.items) ≡ 64 * c.loop-i.i + w.min-count.result =
           omega (arith, here, c.loop-i.invariant.merged.marks_long, w.len-then-now-ne0.ensures.value, w.min-count.ensures) in
           rw (next, w.marks-is, w.self-inside-is) (record {
@@ -42,27 +39,27 @@ loop-i-preserved c =
                   reads_now = c.window-now.ensures;
                   reads_bits = rw c.loop-i.invariant.bits at w.window-bits.ensures;
                   put_heard = record {
+                    within = w.put.ensures.within;
+                    before = w.put.ensures.before;
+                    after = w.put.ensures.after;
+                  };
+                  put_value = record {
                     within = w.put-then-now-ne0.ensures.within;
                     before = w.put-then-now-ne0.ensures.before;
                     after = w.put-then-now-ne0.ensures.after;
                   };
-                  put_value = record {
+                  put_marks = record {
                     within = w.put-then-now-ne0-2.ensures.within;
                     before = w.put-then-now-ne0-2.ensures.before;
                     after = w.put-then-now-ne0-2.ensures.after;
                   };
-                  put_marks = record {
-                    within = w.put-then-now-ne0-3.ensures.within;
-                    before = w.put-then-now-ne0-3.ensures.before;
-                    after = w.put-then-now-ne0-3.ensures.after;
-                  };
                   clash = refl;
-                  heard_long = w.put-then-now-ne0.ensures.long;
-                  value_long = w.put-then-now-ne0-2.ensures.long;
-                  marks_long = w.put-then-now-ne0-3.ensures.long;
+                  heard_long = w.put.ensures.long;
+                  value_long = w.put-then-now-ne0.ensures.long;
+                  marks_long = w.put-then-now-ne0-2.ensures.long;
                 });
             bits = c.loop-i.invariant.bits;
-            room = w.put-then-now-ne0-3.ensures.room ∙ c.loop-i.invariant.room;
+            room = w.put-then-now-ne0-2.ensures.room ∙ c.loop-i.invariant.room;
           })
       | else-now-ne0 w ↦
           rw (w.marks-is, w.self-inside-is) (record {
@@ -74,36 +71,6 @@ loop-i-preserved c =
             room = c.loop-i.invariant.room;
           })
     ]
-
--- The third way: nothing was heard in the word before. So its marks are put as they are, and nothing can clash.
-pub loop-i-preserved-then-before-eq0 : goal.loop-i-preserved-then-before-eq0
-loop-i-preserved-then-before-eq0 c =
-    let here : min (64 * c.loop-i.i) (length c.args.marks.now.heard.items) ≡ 64 * c.loop-i.i =
-    omega (arith, c.loop-i-test.true, c.div_ceil-i-end.ensures, c.len.ensures.value) in
-    let next : min (64 * (c.loop-i.i + 1)) (length c.args.marks.now.heard.items) ≡ 64 * c.loop-i.i + c.min-count.result =
-    omega (arith, here, c.loop-i.invariant.merged.marks_long, c.len-then-now-ne0.ensures.value, c.min-count.ensures) in
-    rw next (record {
-      merged = merged-fresh (64 * c.loop-i.i) c.min-count.result c.window-before.result c.window-now.result c.window-bits.result _ _
-          c.args.marks.now.value.items _ (rw here at c.loop-i.invariant.merged) (record {
-            few = omega (arith, c.min-count.ensures);
-            none = c.if-before-eq0.true;
-            reads_before = c.window-before.ensures;
-            reads_now = c.window-now.ensures;
-            reads_bits = rw c.loop-i.invariant.bits at c.window-bits.ensures;
-            put_heard = record { within = c.put.ensures.within; before = c.put.ensures.before; after = c.put.ensures.after };
-            put_value = record {
-              within = c.put-then-before-eq0.ensures.within;
-              before = c.put-then-before-eq0.ensures.before;
-              after = c.put-then-before-eq0.ensures.after;
-            };
-            marks = refl;
-            clash = refl;
-            heard_long = c.put.ensures.long;
-            value_long = c.put-then-before-eq0.ensures.long;
-          });
-      bits = c.loop-i.invariant.bits;
-      room = c.loop-i.invariant.room;
-    })
 
 -- The last word ends at or past the last position, so all marks are merged.
 pub returns-clause-merged : goal.returns-clause-merged
