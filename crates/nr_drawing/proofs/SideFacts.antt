@@ -48,23 +48,6 @@ side_own word b j small short clear =
     bit_at_or word (b * 2 ^ j % 2 ^ 64) j ∙ ap (max (bit_at word j)) (shifted_own b j small short)
     ∙ ap (λ n. max n b) clear ∙ omega arith
 
--- one more digit below the others
-pub below_own : (word b : ℕ) → b ≤ 1 → bit_at (bit_or (word * 2 ^ 1 % 2 ^ 64) b) 0 ≡ b
-below_own word b small =
-    let none : bit_at (word * 2 ^ 1 % 2 ^ 64) 0 ≡ 0 =
-    bit_at_mod (word * 2 ^ 1) 64 0 (omega arith) ∙ bit_at_shl_low word 1 0 (omega arith) in
-    let own : bit_at b 0 ≡ b = grind arith in
-    bit_at_or (word * 2 ^ 1 % 2 ^ 64) b 0 ∙ ap (λ n. max n (bit_at b 0)) none ∙ omega (arith, own)
-
-pub below_others : (word b k : ℕ) → b ≤ 1 → k + 1 < 64
-    → bit_at (bit_or (word * 2 ^ 1 % 2 ^ 64) b) (k + 1) ≡ bit_at word k
-below_others word b k small short =
-    let e : k + 1 - 1 ≡ k = omega arith in
-    let up : bit_at (word * 2 ^ 1 % 2 ^ 64) (k + 1) ≡ bit_at word k =
-    bit_at_mod (word * 2 ^ 1) 64 (k + 1) short ∙ bit_at_shl_high word 1 (k + 1) (omega arith) ∙ ap (bit_at word) e in
-    let none : bit_at b (k + 1) ≡ 0 = bit_at_above b 1 (k + 1) (omega (arith, small)) (omega arith) in
-    bit_at_or (word * 2 ^ 1 % 2 ^ 64) b (k + 1) ∙ ap (max (bit_at (word * 2 ^ 1 % 2 ^ 64) (k + 1))) none ∙ omega (arith, up)
-
 -- one more place of a generator: the marks so far, and what it draws next
 pub next_more : (threshold m n : ℕ) (start now then : Lcg) → then ≡ (pcg32 now).1
     → ((k : ℕ) → marks_drawn threshold (m + k) start ≡ marks_drawn threshold m start ++ marks_drawn threshold k now)

@@ -1,8 +1,8 @@
-//! The places that a generator draws, from a seed and a threshold. The n-th place is drawn exactly if the n-th word of
-//! the generator is below the threshold. Contracts cite specs/Drawing.antt.
+//! Places drawn by a random generator, PCG32 of `rand_pcg`, from a seed and a threshold: place n is drawn if and only if word n
+//! of the generator is below the threshold. Contracts cite specs/Drawing.antt.
 //!
-//! Inside, `drawn` marks the places in a list, by two generators that draw in turn, and takes memory for it.
-//! `overwrite` writes an octet at each of them, and takes none. `rand_pcg` is the generator.
+//! `drawn` returns the drawn places as a list of bits, `overwrite` writes an octet at each of them without allocating, and
+//! `draw_side` draws for up to 64 generators at once.
 #![tactic(auto)]
 
 ghost use Rattle.std.specs.Prelude.{◌≡◌, ℕ, ◌+◌, ◌++◌, ◌^◌, ◌≤◌, length, IfOk};
@@ -10,6 +10,7 @@ ghost use Rattle.nr_bitvec.specs.BitList.{low_first};
 ghost use Rattle.nr_drawing.specs.Drawing.{AreOverwritten, marks_drawn, places_drawn};
 
 mod side;
+mod states;
 
 use nr_bitvec::{Bits, reversed};
 use rand_core::utils::NextWord;
@@ -20,10 +21,11 @@ use std::alloc::{AllocError, Global};
 // The stream of the generator.
 const STREAM: u64 = 54;
 
-/// For each of the first `count` places, at most 2^24, whether it is drawn.
+/// Returns one bit for each of the first `count` places (at most 2^24), set if the place is drawn.
 ///
 /// # Errors
-/// `AllocError` if memory runs out.
+///
+/// `AllocError` if an allocation fails.
 pub fn drawn(alloc: Global, seed: u64, threshold: u32, count: u32) -> Result<Bits, AllocError>
     requires { count ≤ 2 ^ 24 }
     ensures { IfOk result (λ marks. marks.items ≡ places_drawn seed threshold count) }
@@ -46,7 +48,7 @@ pub fn drawn(alloc: Global, seed: u64, threshold: u32, count: u32) -> Result<Bit
     Ok(marks)
 }
 
-/// Writes `octet` at each place that is drawn, and nothing at the others. Takes no memory.
+/// Writes `octet` at each drawn place and leaves all others unchanged. Allocates nothing.
 pub fn overwrite(seed: u64, threshold: u32, octet: u8, octets: &mut [u8])
     ensures { AreOverwritten octet (places_drawn seed threshold (length octets.old))
         octets.old octets.new }
@@ -59,8 +61,8 @@ pub fn overwrite(seed: u64, threshold: u32, octet: u8, octets: &mut [u8])
     }
 }
 
-// Takes the generator's next `count` words, and puts at the end of a list whether each is below the threshold. The list
-// has room for them.
+// Takes the next `count` words of the generator and appends a bit for each, set if it is below the threshold. The list has room for
+// them.
 fn push_draws(marks: &mut Bits, generator: &mut Pcg32, threshold: u32, count: usize)
     requires { count ≤ marks.old.room }
     ensures { marks.new.items ≡ marks.old.items ++ marks_drawn threshold count generator.old }
@@ -72,7 +74,7 @@ fn push_draws(marks: &mut Bits, generator: &mut Pcg32, threshold: u32, count: us
     }
 }
 
-// Of each of two generators, for each of its next 64 words whether it is below the threshold: the first lowest.
+// Takes the next 64 words of both generators. Bit i of a result is set if word i of that generator is below the threshold.
 fn draw_both(early: &mut Pcg32, late: &mut Pcg32, threshold: u32) -> (u64, u64)
     ensures early { (n : ℕ) → low_first 64 result.0 ++ marks_drawn threshold n early.new
         ≡ marks_drawn threshold (64 + n) early.old }
@@ -92,7 +94,7 @@ fn draw_both(early: &mut Pcg32, late: &mut Pcg32, threshold: u32) -> (u64, u64)
     )
 }
 
-// For each of the generator's next `count` words, at most 64, whether it is below the threshold: the first lowest.
+// Takes the next `count` words of the generator, at most 64. Bit i is set if word i is below the threshold.
 fn draw(generator: &mut Pcg32, threshold: u32, count: usize) -> u64
     requires { count ≤ 64 }
     ensures { (n : ℕ) → low_first count result ++ marks_drawn threshold n generator.new

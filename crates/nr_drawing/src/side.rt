@@ -1,4 +1,4 @@
-//! Places that 64 generators draw side by side, a bit of a word for each of them.
+//! 64 generators that draw places side by side: bit j of a word belongs to generator j.
 
 ghost use Rattle.std.specs.Prelude.{◌≡◌, ℕ, ◌+◌, ◌++◌, ◌^◌, ◌<◌, ◌≤◌, ◌==◌, IfOk, count_by};
 ghost use Rattle.std.specs.Prelude.{if◌then◌else◌, length, map};
@@ -10,14 +10,16 @@ ghost use Rattle.rand_pcg.specs.Pcg.{pcg32};
 ghost use Rattle.nr_drawing.specs.Drawing.{AreRounds, IsAmong, drawn_by, seeded};
 
 use crate::STREAM;
+use crate::states::{draw_all, states_of};
 use rand_core::utils::NextWord;
 use rand_pcg::Pcg32;
 use std::alloc::{AllocError, Global};
 
-/// A generator for each seed.
+/// Returns a generator for each seed, in the same order.
 ///
 /// # Errors
-/// `AllocError` if memory runs out.
+///
+/// `AllocError` if an allocation fails.
 pub fn side_by_side(alloc: Global, seeds: &[u64]) -> Result<Vec<Pcg32>, AllocError>
     ensures { IfOk result (λ generators. generators.items ≡ map seeded seeds.now) }
 {
@@ -28,8 +30,10 @@ pub fn side_by_side(alloc: Global, seeds: &[u64]) -> Result<Vec<Pcg32>, AllocErr
     Ok(generators)
 }
 
-/// Draws the next places of those of 64 generators that `listed` lists. Bit j of a place's word is set if generator j doesn't
-/// draw the place. Returns how many places each of them draws. The others take no time. Takes no memory.
+/// Draws the next places of some of 64 generators: those whose numbers, 0 to 63, `listed` holds in ascending order. `arrived`
+/// gets a word for each place, whose bit j is cleared if generator j draws the place and set otherwise. Returns how many places
+/// each of these generators has drawn. Nothing is promised of the bits, counts and states of generators that are not listed.
+/// Allocates nothing.
 pub fn draw_side(
     generators: &mut [Pcg32],
     listed: &[usize],
@@ -52,39 +56,20 @@ pub fn draw_side(
     ensures long { length arrived.new ≡ length arrived.old }
     ensures all { length generators.new ≡ 64 }
 {
+    if listed.len() == 64 {
+        if let Some(states) = states_of(generators) {
+            return draw_all(generators, states, threshold, arrived);
+        }
+    }
     let mut counts = [0; 64];
     for m in 0..arrived.len() {
-        arrived[m] = !draw_listed(generators, listed, threshold, &mut counts);
+        arrived[m] = !draw_few(generators, listed, threshold, &mut counts);
     }
     counts
 }
 
-// The next draw of each generator that is listed, whether its word is below the threshold: generator j by bit j. Counts them.
-fn draw_listed(
-    generators: &mut [Pcg32],
-    listed: &[usize],
-    threshold: u32,
-    counts: &mut [u32; 64],
-) -> u64
-    requires generators { length generators.old ≡ 64 }
-    requires listed { AreRounds listed.now }
-    requires few { (j : ℕ) → j < 64 → slice_index counts.old j + 1 < 2 ^ 32 }
-    ensures drawn { (j : ℕ) → IsAmong listed.now j → (bit_at result j == 1)
-        ≡ nat_lt (pcg32 (slice_index_or generators.old j (seeded 0))).0 threshold }
-    ensures counted { (j : ℕ) → IsAmong listed.now j → slice_index counts.new j
-        ≡ slice_index counts.old j + (if bit_at result j == 1 then 1 else 0) }
-    ensures most { (j : ℕ) → j < 64 → slice_index counts.new j ≤ slice_index counts.old j + 1 }
-    ensures next { (j : ℕ) → IsAmong listed.now j → slice_index_or generators.new j (seeded 0)
-        ≡ (pcg32 (slice_index_or generators.old j (seeded 0))).1 }
-    ensures long { length generators.new ≡ length generators.old }
-{
-    if listed.len() == 64 {
-        return draw_word(generators, threshold, counts);
-    }
-    draw_few(generators, listed, threshold, counts)
-}
-
-// The same of fewer than all.
+// Takes one word of each listed generator. Bit j of the result tells whether the word of generator j is below the threshold, and if
+// so, its count goes up by one.
 fn draw_few(
     generators: &mut [Pcg32],
     listed: &[usize],
@@ -111,39 +96,4 @@ fn draw_few(
         counts[round] += u32::from(drawn);
     }
     word
-}
-
-// The next draw of each of 64 generators, whether its word is below the threshold: generator j by bit j. Counts them.
-fn draw_word(generators: &mut [Pcg32], threshold: u32, counts: &mut [u32; 64]) -> u64
-    requires generators { length generators.old ≡ 64 }
-    requires few { (j : ℕ) → j < 64 → slice_index counts.old j + 1 < 2 ^ 32 }
-    ensures drawn { (j : ℕ) → j < 64 → (bit_at result j == 1)
-        ≡ nat_lt (pcg32 (slice_index_or generators.old j (seeded 0))).0 threshold }
-    ensures counted { (j : ℕ) → j < 64 → slice_index counts.new j
-        ≡ slice_index counts.old j + (if bit_at result j == 1 then 1 else 0) }
-    ensures most { (j : ℕ) → j < 64 → slice_index counts.new j ≤ slice_index counts.old j + 1 }
-    ensures next { (j : ℕ) → j < 64 → slice_index_or generators.new j (seeded 0)
-        ≡ (pcg32 (slice_index_or generators.old j (seeded 0))).1 }
-    ensures long { length generators.new ≡ length generators.old }
-{
-    // The last draws first: to put a bit below the others takes one instruction.
-    let mut word: u64 = 0;
-    for i in 0..64 {
-        let j = 63 - i;
-        let drawn = generators[j].next_word() < threshold;
-        word = word << 1 | u64::from(drawn);
-    }
-    count_bits(word, counts);
-    word
-}
-
-// Adds to each count the bit of its number.
-fn count_bits(word: u64, counts: &mut [u32; 64])
-    requires { (j : ℕ) → j < 64 → slice_index counts.old j + 1 < 2 ^ 32 }
-    ensures { (j : ℕ) → j < 64 → slice_index counts.new j
-        ≡ slice_index counts.old j + (if bit_at word j == 1 then 1 else 0) }
-{
-    for j in 0..64 {
-        counts[j] += (word >> j & 1) as u32;
-    }
 }

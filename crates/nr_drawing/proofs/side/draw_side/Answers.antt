@@ -13,8 +13,8 @@ loop-m-init c = record {
   all = c.requires.generators;
 }
 
-pub draw_listed-requires-clause-few : goal.draw_listed-requires-clause-few
-draw_listed-requires-clause-few c = λ j short. omega (arith, c.loop-m.invariant.most j short, c.requires.few, c.loop-m-test.true)
+pub draw_few-requires-clause-few : goal.draw_few-requires-clause-few
+draw_few-requires-clause-few c = λ j short. omega (arith, c.loop-m.invariant.most j short, c.requires.few, c.loop-m-test.true)
 
 -- one more place
 pub loop-m-preserved : goal.loop-m-preserved
@@ -26,15 +26,15 @@ loop-m-preserved c =
     let now = λ (j : ℕ). get_or c.loop-m.generators j (seeded 0) in
     record {
       arrived = λ j k short lt.
-          arrived_more c.loop-m.arrived c.args.threshold m j k c.draw_listed.result (start j) (now j)
+          arrived_more c.loop-m.arrived c.args.threshold m j k c.draw_few.result (start j) (now j)
           (among_few c.args.listed.now j c.requires.listed short) (search rules) inside
-          (c.draw_listed.ensures.drawn j short) (λ n. inv.next j n short) (inv.arrived j k short) lt;
+          (c.draw_few.ensures.drawn j short) (λ n. inv.next j n short) (inv.arrived j k short) lt;
       counted = λ j short.
-          counted_next c.args.threshold m (start j) (now j) _ _ _ (c.draw_listed.ensures.drawn j short) (λ n. inv.next j n short)
-          (inv.counted j short) (c.draw_listed.ensures.counted j short);
-      most = λ j short. omega (arith, inv.most j short, c.draw_listed.ensures.most j short);
+          counted_next c.args.threshold m (start j) (now j) _ _ _ (c.draw_few.ensures.drawn j short) (λ n. inv.next j n short)
+          (inv.counted j short) (c.draw_few.ensures.counted j short);
+      most = λ j short. omega (arith, inv.most j short, c.draw_few.ensures.most j short);
       next = λ j n short.
-          next_more c.args.threshold m n (start j) (now j) _ (c.draw_listed.ensures.next j short) (λ k. inv.next j k short);
+          next_more c.args.threshold m n (start j) (now j) _ (c.draw_few.ensures.next j short) (λ k. inv.next j k short);
       long = length-set c.loop-m.arrived m _ ∙ inv.long;
-      all = c.draw_listed.ensures.long ∙ inv.all;
+      all = c.draw_few.ensures.long ∙ inv.all;
     }
