@@ -1,4 +1,4 @@
-//! The list of bits, kept as words.
+//! The list of bits and how it is kept in words.
 
 ghost use Rattle.std.specs.Prelude.{◌≡◌, ℕ, ◌+◌, ◌*◌, ◌^◌, ◌<◌, ◌≤◌, ◌==◌, ◌||◌, false, List};
 ghost use Rattle.std.specs.Prelude.{[], ◌∷◌, ◌++◌, length, drop, replicate, slice_set, IfOk, OnOk, OnErr};
@@ -14,8 +14,8 @@ use super::words::{append_words, change, flip, low_bits, push_bits, same_words, 
 use std::alloc::{AllocError, Global};
 use std::marker::Model;
 
-/// A list of at most 2^24 bits, which keeps its allocator. Two lists are equal if their bits
-/// are.
+/// A list of at most 2^24 bits, which keeps its allocator. Two lists are equal if they have the same bits in the same
+/// order; the room left in them does not count.
 #[derive(Debug, Drop)]
 pub struct Bits {
     words: Vec<u64>,
@@ -36,7 +36,7 @@ impl Model for Bits {
 }
 
 impl Bits {
-    /// The empty list. Takes no memory.
+    /// Returns an empty list. Allocates nothing.
     pub fn new(alloc: Global) -> Bits
         ensures { result.items ≡ [] }
     {
@@ -46,11 +46,11 @@ impl Bits {
         }
     }
 
-    /// An empty list that has memory for `n` bits, at most 2^24.
+    /// Returns an empty list with room for `n` bits, where `n` is at most 2^24.
     ///
     /// # Errors
     ///
-    /// `AllocError`, if memory runs out.
+    /// `AllocError` if memory runs out.
     pub fn with_room(alloc: Global, n: u32) -> Result<Bits, AllocError>
         requires { n ≤ 2 ^ 24 }
         ensures items { IfOk result (λ b. b.items ≡ []) }
@@ -60,11 +60,11 @@ impl Bits {
         Ok(Bits { words, len: 0 })
     }
 
-    /// A list of `n` zero bits, at most 2^24.
+    /// Returns a list of `n` zero bits, where `n` is at most 2^24.
     ///
     /// # Errors
     ///
-    /// `AllocError`, if memory runs out.
+    /// `AllocError` if memory runs out.
     pub fn zeros(alloc: Global, n: u32) -> Result<Bits, AllocError>
         requires { n ≤ 2 ^ 24 }
         ensures { IfOk result (λ b. b.items ≡ replicate n false) }
@@ -74,12 +74,12 @@ impl Bits {
         Ok(Bits { words, len })
     }
 
-    /// The bits of octets, the most significant bit of each first. So the first bit of a transport block is the highest
-    /// of its first octet (TS 38.212, 6.2.1 and 7.2.1). At most 2^21 octets.
+    /// Returns the bits of at most 2^21 octets, each with its most significant bit first, so that the first bit of a
+    /// transport block is the highest bit of its first octet (TS 38.212, 6.2.1 and 7.2.1).
     ///
     /// # Errors
     ///
-    /// `AllocError`, if memory runs out.
+    /// `AllocError` if memory runs out.
     pub fn from_bytes(alloc: Global, octets: &[u8]) -> Result<Bits, AllocError>
         requires { 8 * length octets.now ≤ 2 ^ 24 }
         ensures { IfOk result (λ b. b.items ≡ bits_of octets.now) }
@@ -100,12 +100,12 @@ impl Bits {
         })
     }
 
-    /// The octets of the list, eight bits an octet, the first bit most significant. The last octet
-    /// is filled with zero bits.
+    /// Returns the bits packed into octets, the first bit most significant. If the length is not a multiple of eight,
+    /// the last octet is padded with zero bits.
     ///
     /// # Errors
     ///
-    /// `AllocError`, if memory runs out.
+    /// `AllocError` if memory runs out.
     pub fn to_bytes(&self) -> Result<Vec<u8>, AllocError>
         ensures { IfOk result (λ v. v.items ≡ octets_of self.now.items) }
     {
@@ -115,18 +115,19 @@ impl Bits {
         Ok(octets)
     }
 
-    /// The octet that begins with bit `at`, that bit most significant. Bits past the end are zero.
+    /// Returns the eight bits that begin at bit `at` as an octet, the first bit most significant. Bits past the end
+    /// read as zero.
     pub fn octet(&self, at: usize) -> u8
         ensures { result ≡ number_of 8 (drop at self.now.items) }
     {
         (turned(self.window(at)) & 0xff) as u8
     }
 
-    /// Puts a bit at the end of a list that is not full. The bit takes no more than its own place of the room.
+    /// Appends one bit. The list must have fewer than 2^24 bits, and its room shrinks by at most one bit.
     ///
     /// # Errors
     ///
-    /// `AllocError`, if the list has no room and memory runs out. The list and its room stay as they were.
+    /// `AllocError` if the list has no room and memory runs out. The list and its room are then unchanged.
     pub fn push(&mut self, bit: bool) -> Result<(), AllocError>
         requires { length self.old.items < 2 ^ 24 }
         ensures ok { OnOk result (self.new.items ≡ self.old.items ++ bit ∷ []) }
@@ -152,14 +153,14 @@ impl Bits {
         self.words.reserve(words - self.words.len())
     }
 
-    /// How many more bits the list has memory for, up to 2^24 bits in all.
+    /// Returns how many more bits fit without an allocation. The list never grows past 2^24 bits in all.
     pub fn room(&self) -> u32
         ensures { result ≡ self.now.room }
     {
         (64 * self.words.capacity().min(1 << 18) - self.len) as u32
     }
 
-    /// Puts a bit at the end of a list that has room for it. Takes no memory.
+    /// Appends one bit to a list that has room for it. Allocates nothing.
     pub fn push_in_room(&mut self, bit: bool)
         requires { 0 < self.old.room }
         ensures items { self.new.items ≡ self.old.items ++ bit ∷ [] }
@@ -168,8 +169,8 @@ impl Bits {
         self.push_word(1, bit as u64);
     }
 
-    /// Puts the `count` lowest bits of `word`, at most 64, at the end of a list that has room for
-    /// them, the lowest first. Takes no memory.
+    /// Appends the `count` lowest bits of `word`, the lowest first, where `count` is at most 64 and the list has room
+    /// for them. Allocates nothing.
     pub fn push_word(&mut self, count: usize, word: u64)
         requires count { count ≤ 64 }
         requires room { count ≤ self.old.room }
@@ -180,7 +181,7 @@ impl Bits {
         self.len += count;
     }
 
-    /// Puts zero in the place of every bit. Takes no memory.
+    /// Sets every bit to zero. The length stays the same, and nothing is allocated.
     pub fn zero(&mut self)
         ensures items { self.new.items ≡ replicate (length self.old.items) false }
         ensures long { length self.new.items ≡ length self.old.items }
@@ -189,7 +190,7 @@ impl Bits {
         self.words.fill(0);
     }
 
-    /// Takes all bits away, and keeps their memory. Takes no memory.
+    /// Removes all bits and keeps their memory as room.
     pub fn clear(&mut self)
         ensures items { self.new.items ≡ [] }
         ensures room { length self.old.items + self.old.room ≤ self.new.room }
@@ -198,12 +199,12 @@ impl Bits {
         self.len = 0;
     }
 
-    /// Puts the bits of `more` at the end. Both lists together must have at most 2^24 bits. The bits take no more than
-    /// their own places of the room.
+    /// Appends the bits of `more`. The two lists together must have at most 2^24 bits, and the room shrinks by at most
+    /// the number of bits appended.
     ///
     /// # Errors
     ///
-    /// `AllocError`, if the list lacks the room and memory runs out. The list and its room stay as they were.
+    /// `AllocError` if the list lacks the room and memory runs out. The list and its room are then unchanged.
     pub fn extend(&mut self, more: &Bits) -> Result<(), AllocError>
         requires { length self.old.items + length more.now.items ≤ 2 ^ 24 }
         ensures ok { OnOk result (self.new.items ≡ self.old.items ++ more.now.items) }
@@ -217,7 +218,7 @@ impl Bits {
         Ok(())
     }
 
-    /// The number of bits, at most 2^24.
+    /// Returns the number of bits, at most 2^24.
     pub fn len(&self) -> usize
         ensures value { result ≡ length self.now.items }
         ensures short { result ≤ 2 ^ 24 }
@@ -225,21 +226,21 @@ impl Bits {
         self.len
     }
 
-    /// Law: there are at most 2^24 bits.
+    /// Law: a list has at most 2^24 bits.
     pub fn is_short(&self)
         ensures { length self.now.items ≤ 2 ^ 24 }
     {
         let _ = self.len();
     }
 
-    /// Whether there is no bit.
+    /// Returns whether the list has no bits.
     pub fn is_empty(&self) -> bool
         ensures { result ≡ (length self.now.items == 0) }
     {
         self.len == 0
     }
 
-    /// Bit `i`, counted from 0 and below the length.
+    /// Returns bit `i`, counted from 0, which must be below the length.
     pub fn get(&self, i: usize) -> bool
         requires { i < length self.now.items }
         ensures { result ≡ bit self.now.items i }
@@ -247,7 +248,7 @@ impl Bits {
         self.words[i / 64] >> (i % 64) & 1 == 1
     }
 
-    /// Puts `value` in the place of bit `i`, counted from 0 and below the length. Takes no memory.
+    /// Sets bit `i`, counted from 0, to `value`. The caller guarantees that `i` is below the length. Allocates nothing.
     pub fn set(&mut self, i: usize, value: bool)
         requires { i < length self.old.items }
         ensures items { self.new.items ≡ slice_set self.old.items i value }
@@ -256,15 +257,15 @@ impl Bits {
         self.put(i, 1, value as u64);
     }
 
-    /// The 64 bits from bit `at` on, the first of them lowest. Bits past the end are zero.
+    /// Returns the 64 bits that begin at bit `at`, the first of them lowest. Bits past the end read as zero.
     pub fn window(&self, at: usize) -> u64
         ensures { (j : ℕ) → j < 64 → (bit_at result j == 1) ≡ bit self.now.items (at + j) }
     {
         window(&self.words, at / 64, at % 64)
     }
 
-    /// Puts the `count` lowest bits of `word`, at most 64, in the places from bit `at` on, the lowest first. The list
-    /// has these places. Takes no memory.
+    /// Overwrites the bits from bit `at` on with the `count` lowest bits of `word`, the lowest first. The caller
+    /// guarantees that `count` is at most 64 and that the list has these bits. Allocates nothing.
     pub fn put(&mut self, at: usize, count: usize, word: u64)
         requires count { count ≤ 64 }
         requires inside { at + count ≤ length self.old.items }
@@ -282,8 +283,8 @@ impl Bits {
         flip(&mut self.words, at, added);
     }
 
-    /// Writes `words`, at most 64 of them, from bit `at` on, the lowest bit of each first. The list must have zeros alone
-    /// from there on, and a bit for each place that is set. Takes no memory.
+    /// Writes at most 64 `words` from bit `at` on, the lowest bit of each first. The caller guarantees that the list
+    /// has only zeros from there on, and that no bit of `words` past its end is set. Allocates nothing.
     pub fn put_words(&mut self, at: usize, words: &[u64])
         requires at { at ≤ length self.old.items }
         requires few { length words.now ≤ 64 }
@@ -299,7 +300,8 @@ impl Bits {
         append_words(&mut self.words, at, words);
     }
 
-    /// Sets the bits that another list of the same length has set, and leaves every other bit unchanged. Takes no memory.
+    /// Sets every bit that is set in `more`, a list of the same length, and leaves the others unchanged. Allocates
+    /// nothing.
     pub fn union_with(&mut self, more: &Bits)
         requires { length more.now.items ≡ length self.old.items }
         ensures joined { (p : ℕ) → bit self.new.items p ≡ (bit self.old.items p || bit more.now.items p) }
@@ -311,11 +313,11 @@ impl Bits {
         }
     }
 
-    /// A list of its own with these bits.
+    /// Returns a copy of the list.
     ///
     /// # Errors
     ///
-    /// `AllocError`, if memory runs out.
+    /// `AllocError` if memory runs out.
     pub fn try_clone(&self) -> Result<Bits, AllocError>
         ensures { IfOk result (λ b. b.items ≡ self.now.items) }
     {

@@ -1,8 +1,8 @@
-//! Laws over the definitions alone.
+//! Laws about the definitions, which no code needs.
 
 ghost use Rattle.nr_bitvec.specs.BitList.{OctetsRoundTrip};
 
-/// Law: octets that are written as bits and read again are the same octets.
+/// Law: octets that are read as bits and packed again are the same octets.
 pub fn octets_round_trip()
     ensures { OctetsRoundTrip }
 {}

@@ -1,9 +1,8 @@
-//! Lists of at most 2^24 bits, and octets as bits, the most significant first (TS 38.212). Contracts see a `Bits` as
-//! the list of its bits and the room that it has for more (specs/BitList.antt). Each call's contract says what it makes
-//! of that list, and `octets_round_trip` is the law of octets.
+//! Lists of at most 2^24 bits, and octets read as bits with the most significant one first, as TS 38.212 has them. A
+//! contract sees a `Bits` as the list of its bits and the room that it has for more (specs/BitList.antt), and says what
+//! a call does to that list. `octets_round_trip` is the law that octets survive being read and packed again.
 //!
-//! Inside, 64 bits are kept to a word of std's `Vec`. The definitions of single bits, `bit` and the sum modulo two, are
-//! in specs/Bit.antt.
+//! A list is stored in 64-bit words in std's `Vec`. Single bits and their sum modulo two are defined in specs/Bit.antt.
 #![tactic(auto)]
 
 mod bits;

@@ -1,11 +1,11 @@
-//! Octets as words: the places of octets have the most significant bit of each first, those of a
-//! word the least.
+//! Octets in words. An octet has its most significant bit first, while a word has its least significant bit first, so
+//! the bits of each octet are reversed on the way.
 
 ghost use Rattle.std.specs.Prelude.{◌≡◌, ℕ, ◌+◌, ◌-◌, ◌*◌, ◌/◌, ◌%◌, ◌<◌, ◌≤◌, length};
 ghost use Rattle.std.specs.Int.{bit_at};
 ghost use Rattle.nr_bitvec.specs.inside.Packed.{HoldsOctets, octet_place, Swaps};
 
-/// The word with its bits in the other order: what `u64::reverse_bits` gives, in fewer steps.
+/// Returns the word with its 64 bits in reverse order, as `u64::reverse_bits` does, in fewer instructions.
 pub fn reversed(word: u64) -> u64
     ensures { (j : ℕ) → j < 64 → bit_at result j ≡ bit_at word (63 - j) }
 {

@@ -1,12 +1,12 @@
-//! Words of 64 places, place 0 the lowest bit of the first word, as a list of bits and a rotated
-//! block keep them.
+//! Slices of 64-bit words read as bits, bit 0 being the lowest bit of the first word. Lists of bits and rotated blocks
+//! are stored in this way.
 
 ghost use Rattle.std.specs.Prelude.{◌≡◌, ℕ, ◌+◌, ◌-◌, ◌*◌, ◌^◌, ◌<◌, ◌≤◌, length, vec_len};
 ghost use Rattle.std.specs.{Prelude.vec_capacity, Prelude.IsTrue, Int.bit_at};
 ghost use Rattle.nr_bitvec.specs.Packed.{place, IsClear};
 ghost use Rattle.nr_bitvec.specs.inside.Packed.{Adds, Changes, Grows, IsPacked, Joins, Loads, SamePlaces, followed};
 
-/// The `count` lowest bits of a word, and zeros above them.
+/// Returns the `count` lowest bits of a word, with zeros above them.
 pub fn low_bits(word: u64, count: usize) -> u64
     ensures low { (j : ℕ) → j < count → bit_at result j ≡ bit_at word j }
     ensures high { (j : ℕ) → count ≤ j → bit_at result j ≡ 0 }
@@ -18,8 +18,8 @@ pub fn low_bits(word: u64, count: usize) -> u64
     }
 }
 
-/// The 64 places from place `turn` of word `word` on, the first of them lowest. Places past the end
-/// are zero.
+/// Returns the 64 bits that begin at bit `turn` of word `word`, the first of them lowest. The caller guarantees that
+/// `turn` is below 64. Bits past the end read as zero.
 pub fn window(words: &[u64], word: usize, turn: usize) -> u64
     requires { turn < 64 }
     ensures { (j : ℕ) → j < 64 → bit_at result j ≡ place words.now (64 * word + turn + j) }

@@ -1,7 +1,7 @@
-//! The concatenation of code blocks (TS 38.212, 5.5). The contracts say the joined list, and cite `IsOwner` of
-//! specs/Concatenation.antt. Each place of the list has one owner, by a law.
+//! The concatenation of code blocks (TS 38.212, 5.5). Contracts define the joined list and cite `IsOwner` of
+//! specs/Concatenation.antt. By a law, each index of the list belongs to exactly one code block.
 //!
-//! Inside, `append` puts the bits of a code block after those before it, and `owner` says whose bit is at a place.
+//! `append` puts the bits of a code block after those before it, and `owner` tells which code block a bit belongs to.
 #![tactic(auto)]
 
 ghost use Rattle.std.specs.Prelude.{◌≡◌, ◌+◌, ◌^◌, ◌<◌, ◌≤◌, ◌++◌, length, sum, OnOk, OnErr};
@@ -10,12 +10,12 @@ ghost use Rattle.nr_cbconcat.specs.Concatenation.{IsOwner, owner_of, PlacesHaveO
 use nr_bitvec::Bits;
 use std::alloc::AllocError;
 
-/// Puts the bits of a code block after the joined ones (TS 38.212, 5.5). Both together must have at most 2^24 bits.
-/// The block takes no more than its own places of the room.
+/// Appends the bits of a code block to the joined ones (TS 38.212, 5.5). Both together must have at most 2^24 bits, and
+/// the room shrinks by at most the bits of the code block.
 ///
 /// # Errors
 ///
-/// `AllocError`, if the joined bits lack the room and memory runs out. They and their room stay as they were.
+/// `AllocError` if the joined bits lack the room and memory runs out. They and their room are then unchanged.
 pub fn append(joined: &mut Bits, block: &Bits) -> Result<(), AllocError>
     requires { length joined.old.items + length block.now.items ≤ 2 ^ 24 }
     ensures ok { OnOk result (joined.new.items ≡ joined.old.items ++ block.now.items) }
@@ -26,9 +26,9 @@ pub fn append(joined: &mut Bits, block: &Bits) -> Result<(), AllocError>
     joined.extend(block)
 }
 
-/// The code block of place `m` of the joined bits, counted from 0, and the place there (TS 38.212,
-/// 5.5). `lengths` are the lengths of the code blocks, and `m` is below their sum. Takes no memory;
-/// walks the lengths.
+/// Returns the code block to which bit `m` of the joined bits belongs, counted from 0, and the index of the bit in it
+/// (TS 38.212, 5.5). `lengths` are the lengths of the code blocks, and `m` must be below their sum. Allocates nothing
+/// and takes time in proportion to the number of code blocks.
 pub fn owner(lengths: &[u32], m: u32) -> (u32, u32)
     requires few { length lengths.now < 2 ^ 32 }
     requires inside { m < sum lengths.now }
@@ -45,7 +45,7 @@ pub fn owner(lengths: &[u32], m: u32) -> (u32, u32)
     unreachable!()
 }
 
-/// Law: each place of the joined bits has one owner.
+/// Law: each bit of the joined bits belongs to exactly one code block.
 pub fn places_have_one_owner()
     ensures { PlacesHaveOneOwner }
 {}

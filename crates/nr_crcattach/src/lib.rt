@@ -1,8 +1,9 @@
 //! The cyclic redundancy checks of NR (TS 38.212, 5.1) and their attachment to transport blocks (6.2.1, 7.2.1) and to
-//! code blocks (5.2.2). `attach` returns the list with its parity bits after it (specs/Attachment.antt). They are the
-//! remainder of a polynomial (specs/Crc.antt). The law `attachment_divides` says that what was attached leaves 0.
+//! code blocks (5.2.2). `attach` returns a list followed by its parity bits (specs/Attachment.antt), which are defined
+//! as the remainder of a polynomial (specs/Crc.antt). The law `attachment_divides` says that a list with its parity
+//! bits leaves remainder 0.
 //!
-//! Inside, a list of bits is a polynomial, its first bit the highest coefficient.
+//! A list of bits is read as a polynomial whose highest coefficient is the first bit.
 #![tactic(auto)]
 
 ghost use Rattle.nr_crcattach.specs.Attachment.{AttachedBlocksDivide, CheckedListsDivide, BlocksLengthen, CheckedListsLengthen};
@@ -22,7 +23,7 @@ use std::alloc::{AllocError, Global};
 // 7.2.1).
 const MOST_FOR_C16: usize = 3824;
 
-/// A generator polynomial of TS 38.212 clause 5.1.
+/// A generator polynomial of TS 38.212, 5.1.
 #[derive(Clone, Copy, Debug, PartialEq, Eq)]
 pub enum Poly {
     /// gCRC24A, for long transport blocks: 24 parity bits.
@@ -34,8 +35,8 @@ pub enum Poly {
 }
 
 impl Poly {
-    /// The generator for transport blocks of `a` bits: CRC24A if `a` is above 3824, else CRC16
-    /// (TS 38.212, 6.2.1 and 7.2.1).
+    /// Returns the generator for a transport block of `a` bits: CRC24A if `a` is above 3824, otherwise CRC16 (TS
+    /// 38.212, 6.2.1 and 7.2.1).
     pub fn of_block(a: usize) -> Poly
         ensures { result ≡ length_poly a }
     {
@@ -46,7 +47,7 @@ impl Poly {
         }
     }
 
-    /// The number of parity bits: 24, 24 or 16.
+    /// Returns the number of parity bits: 24 for `A24` and `B24`, 16 for `C16`.
     pub fn degree(self) -> u32
         ensures { result ≡ degree self }
     {
@@ -82,8 +83,8 @@ impl Poly {
     }
 }
 
-/// The parity bits of `bits` by the generator `poly`, as a number of 24 or 16 bits, the first
-/// parity bit highest (TS 38.212, 5.1). Takes no memory.
+/// Returns the parity bits of `bits` as a number of 24 or 16 bits, the first parity bit most significant (TS 38.212,
+/// 5.1). Allocates nothing.
 pub fn crc(poly: Poly, bits: &Bits) -> u32
     ensures value { result ≡ crc_of poly bits.now.items }
     ensures fits { result < 2 ^ degree poly }
@@ -91,8 +92,8 @@ pub fn crc(poly: Poly, bits: &Bits) -> u32
     crc_range(poly, bits, 0, bits.len())
 }
 
-/// The parity bits of the `len` bits from bit `from` on, as `crc` gives them for a list of these
-/// bits alone. The range lies within the list. Takes no memory.
+/// Returns the parity bits of the `len` bits that begin at bit `from`, as `crc` does for a list of just these bits. The
+/// caller guarantees that the list has them. Allocates nothing.
 pub fn crc_range(poly: Poly, bits: &Bits, from: usize, len: usize) -> u32
     requires { from + len ≤ length bits.now.items }
     ensures value { result ≡ crc_of poly (take len (drop from bits.now.items)) }
@@ -125,8 +126,8 @@ fn crc_of_words(poly: Poly, bits: &Bits, from: usize, words: usize) -> u32
     poly.flipped(register)
 }
 
-/// Whether `bits`, as a polynomial, leaves remainder 0 by the generator `poly` (TS 38.212, 5.1), as
-/// a list followed by its parity bits does. Takes no memory.
+/// Returns whether `bits`, read as a polynomial, leaves remainder 0 when divided by the generator (TS 38.212, 5.1), as
+/// every list followed by its parity bits does. Allocates nothing.
 pub fn divides(poly: Poly, bits: &Bits) -> bool
     ensures { IsTrue result ↔ IsDivided poly bits.now.items }
 {
@@ -134,12 +135,12 @@ pub fn divides(poly: Poly, bits: &Bits) -> bool
     crc(poly, bits) == 0
 }
 
-/// A transport block followed by its parity bits (TS 38.212, 6.2.1 and 7.2.1). They are 24 by CRC24A if it has more
-/// than 3824 bits, else 16 by CRC16. The block has at most 2^24 - 24 bits.
+/// Returns a transport block of at most 2^24 - 24 bits followed by its parity bits: 24 of CRC24A if the block has more
+/// than 3824 bits, otherwise 16 of CRC16 (TS 38.212, 6.2.1 and 7.2.1).
 ///
 /// # Errors
 ///
-/// `AllocError`, if memory runs out.
+/// `AllocError` if memory runs out.
 pub fn attach(alloc: Global, block: &Bits) -> Result<Bits, AllocError>
     requires { length block.now.items + 24 ≤ 2 ^ 24 }
     ensures { IfOk result (λ b. b.items ≡ attached block.now.items) }
@@ -147,9 +148,9 @@ pub fn attach(alloc: Global, block: &Bits) -> Result<Bits, AllocError>
     followed_by_check(alloc, Poly::of_block(block.len()), block, 0, block.len())
 }
 
-/// Puts a transport block followed by its parity bits, as `attach` gives them, in the place of a
-/// list's bits (TS 38.212, 6.2.1 and 7.2.1). The list has the room for all of them, and keeps what
-/// room it has. Takes no memory.
+/// Replaces the bits of `list` by a transport block followed by its parity bits, as `attach` returns them (TS 38.212,
+/// 6.2.1 and 7.2.1). The caller guarantees that the memory of the list suffices, so nothing is allocated, and the list
+/// keeps its memory.
 pub fn attach_into(block: &Bits, list: &mut Bits)
     requires room { length (attached block.now.items) ≤ length list.old.items + list.old.room }
     ensures items { list.new.items ≡ attached block.now.items }
@@ -159,8 +160,8 @@ pub fn attach_into(block: &Bits, list: &mut Bits)
     put_with_check(Poly::of_block(block.len()), block, 0, block.len(), list);
 }
 
-/// The number of bits that a transport block of `a` bits has with its parity bits, which is B (TS 38.212, 6.2.1 and
-/// 7.2.1). It is `a` and 24 above 3824, else `a` and 16.
+/// Returns B, the number of bits of a transport block of `a` bits with its parity bits: `a` + 24 if `a` is above 3824,
+/// otherwise `a` + 16 (TS 38.212, 6.2.1 and 7.2.1).
 pub fn attached_len(a: u32) -> u32
     requires { a < 2 ^ 24 }
     ensures { result ≡ attached_length a }
@@ -168,12 +169,11 @@ pub fn attached_len(a: u32) -> u32
     a + Poly::of_block(a as usize).degree()
 }
 
-/// The bits of a code block, at most 2^24 - 24, followed by their 24 parity bits by CRC24B (TS
-/// 38.212, 5.2.2).
+/// Returns the bits of a code block, at most 2^24 - 24, followed by their 24 parity bits of CRC24B (TS 38.212, 5.2.2).
 ///
 /// # Errors
 ///
-/// `AllocError`, if memory runs out.
+/// `AllocError` if memory runs out.
 pub fn attach_code(alloc: Global, bits: &Bits) -> Result<Bits, AllocError>
     requires { length bits.now.items + 24 ≤ 2 ^ 24 }
     ensures { IfOk result (λ b. b.items ≡ with_check Poly.B24 bits.now.items) }
@@ -181,12 +181,12 @@ pub fn attach_code(alloc: Global, bits: &Bits) -> Result<Bits, AllocError>
     attach_code_range(alloc, bits, 0, bits.len())
 }
 
-/// The `len` bits of a code block from bit `from` of a list on, as `attach_code` gives them for a
-/// list of these bits alone. The range lies within the list.
+/// Returns the `len` bits that begin at bit `from` followed by their CRC24B, as `attach_code` does for a list of just
+/// these bits. The caller guarantees that the list has them.
 ///
 /// # Errors
 ///
-/// `AllocError`, if memory runs out.
+/// `AllocError` if memory runs out.
 pub fn attach_code_range(
     alloc: Global,
     bits: &Bits,
@@ -235,15 +235,15 @@ fn put_with_check(poly: Poly, bits: &Bits, from: usize, len: usize, list: &mut B
     list.push_word(poly.degree() as usize, u64::from(poly.flipped(check)));
 }
 
-/// The law of attachment: every list followed by its parity bits leaves remainder 0 by their generator. So does every
-/// transport block as `attach` gives it.
+/// Law: every list followed by its parity bits leaves remainder 0 when divided by their generator, and so does every
+/// transport block that `attach` returns.
 pub fn attachment_divides()
     ensures check { CheckedListsDivide }
     ensures block { AttachedBlocksDivide }
 {}
 
-/// The law of lengths: parity bits lengthen a list by their number. They lengthen a transport block by 24 bits exactly
-/// if it has more than 3824, else by 16, which is what `attached_len` gives.
+/// Law: parity bits lengthen a list by their number. They lengthen a transport block by 24 bits if it has more than
+/// 3824 bits, and by 16 otherwise, as `attached_len` computes.
 pub fn attachment_lengthens()
     ensures check { CheckedListsLengthen }
     ensures block { BlocksLengthen }
@@ -251,8 +251,9 @@ pub fn attachment_lengthens()
     ensures short { ShortBlocksLengthen }
 {}
 
-/// The laws of sums: a sum times D is the sum of both times D. One more power of D is the remainder times D. The
-/// remainder of two lists joined is the sum of both, the first's raised by as many powers as the second has bits.
+/// Laws of remainders: multiplying by D distributes over sums; one more power of D multiplies the remainder by D; the
+/// remainder of two joined lists is the sum of both, with that of the first raised by as many powers as the second list
+/// has bits.
 pub fn residues_add()
     ensures sum { TimesDIsAdditive }
     ensures power { PowersMultiply }

@@ -1,5 +1,5 @@
-//! A check 64 bits at a turn, by the remainders of their eight octets. Here a remainder has its bits in the other order,
-//! the first parity bit lowest, as the words have theirs.
+//! Computes a check 64 bits at a time from the remainders of their eight octets. Remainders are stored with their bits
+//! reversed here, the first parity bit lowest, because the words have their bits in that order too.
 
 ghost use Rattle.std.specs.Prelude.{◌≡◌, ◌<◌, ◌^◌};
 ghost use Rattle.nr_bitvec.specs.BitList.{low_first};

@@ -1,4 +1,4 @@
-//! The tables by which eight octets enter a check at once.
+//! The tables with which eight octets enter a check at once.
 
 ghost use Rattle.std.specs.Prelude.{◌≡◌};
 ghost use Rattle.nr_crcattach.specs.{inside.Octets.octet_tables, declared.Poly.Poly};

@@ -1,8 +1,8 @@
-//! The choice between the two LDPC base graphs, and their sizes (3GPP TS 38.212, 5.3.2, 6.2.2 and 7.2.2). `pick`
-//! returns the base graph of a transport block by its size and its code rate. Its contract: the result is `pick_said`
-//! of specs/Graph.antt, or the first of the two faults.
+//! Chooses between the two LDPC base graphs and gives their sizes (3GPP TS 38.212, 5.3.2, 6.2.2 and 7.2.2). `pick`
+//! returns the base graph for a transport block of a given size and code rate: by its contract, what `pick_said` of
+//! specs/Graph.antt defines, or the first of two errors.
 //!
-//! Inside are the three comparisons of the standard in whole numbers. Nothing here takes memory.
+//! The rate is compared in whole numbers, and nothing is allocated.
 #![tactic(auto)]
 
 ghost use Rattle.std.specs.Prelude.{◌≡◌};
@@ -17,7 +17,7 @@ const MOST_BITS: u32 = 1_310_720;
 // The largest code rate, in 2048ths: 1.
 const FULL_RATE: u32 = 2048;
 
-/// An LDPC base graph (TS 38.212, 5.3.2). It is printed as its number, `1` or `2`.
+/// An LDPC base graph (TS 38.212, 5.3.2), which prints as its number, `1` or `2`.
 #[derive(Clone, Copy, Debug, PartialEq, Eq)]
 pub enum Graph {
     /// LDPC base graph 1, for long transport blocks at high code rates.
@@ -27,7 +27,7 @@ pub enum Graph {
 }
 
 impl Graph {
-    /// How many rows of Zc by Zc blocks the parity-check matrix has: 46 or 42 (TS 38.212, 5.3.2).
+    /// Returns the number of rows of Zc by Zc blocks in the parity-check matrix: 46 or 42 (TS 38.212, 5.3.2).
     pub fn rows(self) -> u32
         ensures { result ≡ rows_of self }
     {
@@ -37,7 +37,7 @@ impl Graph {
         }
     }
 
-    /// How many columns of Zc by Zc blocks it has: 68 or 52 (TS 38.212, 5.3.2).
+    /// Returns the number of columns of Zc by Zc blocks in the parity-check matrix: 68 or 52 (TS 38.212, 5.3.2).
     pub fn cols(self) -> u32
         ensures { result ≡ cols_of self }
     {
@@ -47,8 +47,7 @@ impl Graph {
         }
     }
 
-    /// How many of its columns, the first ones, have information bits: 22 or 10 (TS 38.212,
-    /// 5.2.2).
+    /// Returns how many of the columns, counted from the first, carry information bits: 22 or 10 (TS 38.212, 5.2.2).
     pub fn info_cols(self) -> u32
         ensures { result ≡ info_cols_of self }
     {
@@ -73,28 +72,30 @@ impl fmt::Display for Graph {
     }
 }
 
-/// Why no base graph is picked.
+/// Why no base graph can be chosen.
 #[derive(Clone, Copy, Debug, PartialEq, Eq, Error)]
 pub enum PickFault {
-    /// The code rate is not in 1..=2048 2048ths.
+    /// The code rate is not within 1..=2048 2048ths.
     #[error("RateRange")]
     RateRange,
-    /// The transport block does not have 1..=1,310,720 bits.
+    /// The size of the transport block is not within 1..=1,310,720 bits.
     #[error("SizeRange")]
     SizeRange,
 }
 
-/// Picks the base graph of a transport block of `a` bits at the code rate `rate2048` / 2048
-/// (TS 38.212, 6.2.2 and 7.2.2).
+/// Returns the base graph for a transport block of `a` bits at the code rate `rate2048` / 2048 (TS 38.212, 6.2.2 and
+/// 7.2.2).
 ///
-/// Base graph 2 is taken if `a` is at most 292, or `a` is at most 3824 and the rate at most
-/// 0.67. It is also taken if the rate is at most 0.25; otherwise base graph 1 is. The rate is
-/// compared in whole numbers, as `100 * rate2048 <= 137216` and `4 * rate2048 <= 2048`.
+/// Base graph 2 is used if `a` is at most 292, if `a` is at most 3824 and the rate is at most 0.67, or if the rate is
+/// at most 0.25; otherwise base graph 1 is used. The rate is compared in whole numbers, as `100 * rate2048 <= 137216`
+/// and `4 * rate2048 <= 2048`.
 ///
 /// # Errors
 ///
-/// In this order: `RateRange`, if `rate2048` is not in 1..=2048; `SizeRange`, if `a` is not
-/// in 1..=1,310,720.
+/// In this order:
+///
+/// 1. `RateRange` if `rate2048` is not within 1..=2048
+/// 2. `SizeRange` if `a` is not within 1..=1,310,720
 pub fn pick(a: u32, rate2048: u32) -> Result<Graph, PickFault>
     ensures { result ≡ pick_said a rate2048 }
 {

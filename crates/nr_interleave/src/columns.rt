@@ -1,4 +1,4 @@
-//! Interleaving by 64 columns of the matrix at a time.
+//! Interleaves 64 columns of the matrix at a time.
 
 ghost use Rattle.std.specs.Prelude.{◌≡◌, ℕ, ◌+◌, ◌*◌, ◌/◌, ◌%◌, ◌^◌, ◌<◌, ◌≤◌, ◌==◌};
 ghost use Rattle.std.specs.Prelude.{◌++◌, Bool, List, drop, length, slice_index_or, take};

@@ -1,8 +1,8 @@
-//! The bit interleaver of TS 38.212, 5.4.2.2. Contracts cite specs/Interleaving.antt, which has the standard's index
-//! and the whole list. If the number of bits is a multiple of Qm, each bit is taken once, by a law.
+//! The bit interleaver of TS 38.212, 5.4.2.2. Contracts cite specs/Interleaving.antt, which defines the standard's
+//! index and the whole list. By a law, each bit is taken exactly once if the number of bits is a multiple of Qm.
 //!
-//! Inside, `spread` and `spread_onto` put the selected bits of a code block in the order in which they are sent.
-//! `unspread_into` puts them back, and `seat` says which of them is at a place. Only `spread` takes memory.
+//! `spread` and `spread_onto` put the selected bits of a code block into the order in which they are sent,
+//! `unspread_into` puts them back, and `seat` tells which of them stands at an index. Only `spread` allocates memory.
 #![tactic(auto)]
 
 ghost use Rattle.std.specs.Prelude.{◌≡◌, ◌+◌, ◌%◌, ◌<◌, ◌≤◌, ◌++◌, length, take, drop, IfOk};
@@ -18,8 +18,9 @@ use octets::{OF_2, OF_4, OF_6, OF_8};
 use rows::{by_rows, by_seats};
 use std::alloc::{AllocError, Global};
 
-/// The index among the `e` selected bits of the bit at place `m` of the interleaved ones (TS 38.212, 5.4.2.2). The
-/// modulation order `qm` is 1, 2, 4, 6 or 8, or any other that is not 0, and `e` is a multiple of it. Takes no memory.
+/// Returns which of the `e` selected bits is bit `m` of the interleaved ones, as an index counted from 0 (TS 38.212,
+/// 5.4.2.2). The modulation order `qm` is 1, 2, 4, 6 or 8, or any other number but 0, and `e` is a multiple of it.
+/// Allocates nothing.
 pub fn seat(qm: u32, e: u32, m: u32) -> u32
     requires some { 0 < qm }
     requires whole { e % qm ≡ 0 }
@@ -30,12 +31,12 @@ pub fn seat(qm: u32, e: u32, m: u32) -> u32
     (m % qm) * (e / qm) + m / qm
 }
 
-/// The bits of a code block in their interleaved order, for the modulation order `qm`, of which their number is a
-/// multiple (TS 38.212, 5.4.2.2).
+/// Returns the bits of a code block in their interleaved order for the modulation order `qm`, of which their number is
+/// a multiple (TS 38.212, 5.4.2.2).
 ///
 /// # Errors
 ///
-/// `AllocError`, if memory runs out.
+/// `AllocError` if memory runs out.
 pub fn spread(alloc: Global, qm: u32, bits: &Bits) -> Result<Bits, AllocError>
     requires some { 0 < qm }
     requires whole { length bits.now.items % qm ≡ 0 }
@@ -46,8 +47,7 @@ pub fn spread(alloc: Global, qm: u32, bits: &Bits) -> Result<Bits, AllocError>
     Ok(spread)
 }
 
-/// Puts the bits that `spread` returns at the end of a list that has room for them (TS 38.212, 5.4.2.2). Takes no
-/// memory.
+/// Appends the bits that `spread` returns to a list that has room for them (TS 38.212, 5.4.2.2). Allocates nothing.
 pub fn spread_onto(qm: u32, bits: &Bits, spread: &mut Bits)
     requires some { 0 < qm }
     requires whole { length bits.now.items % qm ≡ 0 }
@@ -79,8 +79,8 @@ fn by_places(qm: u32, bits: &Bits, spread: &mut Bits)
     }
 }
 
-/// What `spread` undoes (TS 38.212, 5.4.2.2). It puts bits into `selected`, in place of its bits. Of these the `count`
-/// bits of a list from bit `from` on are the interleaved ones, for the modulation order `qm`. Takes no memory.
+/// Undoes `spread` for a range of a list (TS 38.212, 5.4.2.2): replaces the bits of `selected` by those whose
+/// interleaving, for the modulation order `qm`, is the `count` bits of `bits` from bit `from` on. Allocates nothing.
 pub fn unspread_into(qm: u32, bits: &Bits, from: usize, count: usize, selected: &mut Bits)
     requires some { 0 < qm }
     requires whole { count % qm ≡ 0 }
@@ -108,7 +108,7 @@ pub fn unspread_into(qm: u32, bits: &Bits, from: usize, count: usize, selected: 
     }
 }
 
-/// Law: if the number of bits is a multiple of Qm, `seat` gives each index below it once.
+/// Law: if the number of bits is a multiple of Qm, `seat` returns each index below it exactly once.
 pub fn seats_are_seating()
     ensures { SeatsAreSeating }
 {}

@@ -1,4 +1,4 @@
-//! Eight columns of a matrix in a word, one after the other, as octets of its rows, and back. Eight such words
+//! Converts between eight columns of a matrix in a word, one after the other, and octets of its rows. Eight such words
 //! are exchanged with eight words of the rows.
 
 ghost use Rattle.std.specs.Prelude.{◌≡◌, ℕ, ◌+◌, ◌*◌, ◌/◌, ◌%◌, ◌<◌, ◌≤◌, ◌==◌, ◌++◌};

@@ -1,4 +1,4 @@
-//! Un-interleaving: bits that are column by column in a matrix are put into its rows.
+//! De-interleaving: writes bits that stand column by column in a matrix into its rows.
 
 ghost use Rattle.std.specs.Prelude.{◌≡◌, ℕ, ◌+◌, ◌*◌, ◌/◌, ◌%◌, ◌^◌, ◌<◌, ◌≤◌, ◌==◌};
 ghost use Rattle.std.specs.{Prelude.◌++◌, Prelude.Bool, Prelude.length, Prelude.slice_index_or, Int.bit_at};

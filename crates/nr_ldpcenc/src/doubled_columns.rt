@@ -1,5 +1,5 @@
-//! The columns of blocks of a word as doubled lanes, and the sums of a row of blocks over them. A column begins twelve words
-//! from the one before.
+//! The columns of blocks of a codeword as doubled lanes, and the sums of a row of blocks over them. A column begins
+//! twelve words after the one before it.
 
 ghost use Rattle.std.specs.Prelude.{◌≡◌, ℕ, ◌+◌, ◌*◌, ◌%◌, ◌<◌, ◌≤◌, length};
 ghost use Rattle.nr_bitvec.specs.{Bit.◌⊕◌, Bit.bit, Packed.place};

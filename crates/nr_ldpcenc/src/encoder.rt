@@ -1,4 +1,4 @@
-//! The encoder, and the test of a word.
+//! The encoder, and checking a word against the parity-check matrix.
 
 ghost use Rattle.std.specs.Prelude.{◌≡◌, ◌↔◌, false, length, IfOk, IsErrOf, IsTrue};
 ghost use Rattle.nr_bitvec.specs.Bit.{bit};
@@ -16,13 +16,15 @@ use nr_segment::Plan;
 use nr_shifttable::Table;
 use std::alloc::Global;
 
-/// The codeword of the K' bits of a code block (TS 38.212, 5.3.2). It is the one word that begins with them, has zeros
-/// for the fillers and meets every row.
+/// Returns the codeword of the K' bits of a code block (TS 38.212, 5.3.2): the only word that begins with these bits,
+/// has zeros for the fillers, and meets every check row.
 ///
 /// # Errors
 ///
-/// In this order: `NoGraph`, if the table lacks the plan's base graph, before any memory is asked for; `Memory`,
-/// if memory runs out.
+/// In this order:
+///
+/// 1. `NoGraph` if the table lacks the plan's base graph, before any memory is allocated
+/// 2. `Memory` if memory runs out
 pub fn encode(alloc: Global, table: &Table, plan: &Plan, bits: &Bits) -> Result<Word, EncFault>
     requires { length bits.now.items ≡ plan.now.kdash }
     ensures no_graph { IsErrOf result EncFault.NoGraph
@@ -44,7 +46,7 @@ pub fn encode(alloc: Global, table: &Table, plan: &Plan, bits: &Bits) -> Result<
     Ok(word)
 }
 
-/// Whether a word meets every row of a code block's parity-check matrix (TS 38.212, 5.3.2). Takes no memory.
+/// Returns whether a word meets every row of a code block's parity-check matrix (TS 38.212, 5.3.2). Allocates nothing.
 pub fn meets(table: &Table, plan: &Plan, word: &Word) -> bool
     requires graph { IsTrue (has_graph plan.now.graph table.now) }
     requires long { length word.now ≡ positions_of plan.now }

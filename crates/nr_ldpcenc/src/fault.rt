@@ -1,14 +1,14 @@
-//! Why a code block is not encoded.
+//! The errors of encoding a code block.
 
 use thiserror::Error;
 
-/// Why there is no codeword.
+/// Why a code block was not encoded.
 #[derive(Clone, Copy, Debug, PartialEq, Eq, Error)]
 pub enum EncFault {
     /// The table lacks the plan's base graph.
     #[error("NoGraph")]
     NoGraph,
-    /// Memory was refused.
+    /// Memory ran out.
     #[error("Memory")]
     Memory,
 }

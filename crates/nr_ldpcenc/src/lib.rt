@@ -1,9 +1,9 @@
-//! The LDPC codewords of NR (3GPP TS 38.212, 5.3.2), for every accepted shift table and each of the 51 lifting sizes.
-//! The codeword is the one word that begins with the code block's bits and meets every row (specs/Codeword.antt). The
-//! rows are sums of the word over a matrix of rotated identities (specs/Rows.antt), and never the order in which an
-//! encoder solves them.
+//! The LDPC codewords of NR (3GPP TS 38.212, 5.3.2), for every accepted shift table and each of the 51 lifting sizes. A
+//! codeword is defined as the only word that begins with the code block's bits and meets every check row
+//! (specs/Codeword.antt). The rows are defined as sums of the word over a matrix of rotated identities
+//! (specs/Rows.antt), never as the order in which an encoder solves them.
 //!
-//! Inside, a `Word` has a place for each column of the parity-check matrix, the two punctured columns among them.
+//! A `Word` has one bit for each column of the parity-check matrix, including the two block columns that are punctured.
 #![tactic(auto)]
 
 mod doubled_columns;

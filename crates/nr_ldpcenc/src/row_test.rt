@@ -1,4 +1,4 @@
-//! The test of a word, a row of blocks at a time.
+//! Checks a word, one row of blocks at a time.
 
 ghost use Rattle.std.specs.Prelude.{◌≡◌, ◌↔◌, ℕ, ◌+◌, ◌*◌, ◌<◌, ◌≤◌, false, length, IsTrue};
 ghost use Rattle.nr_bitvec.specs.Bit.{bit};

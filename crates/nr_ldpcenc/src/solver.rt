@@ -1,6 +1,7 @@
-//! The parity columns of a word, solved one after another. The first comes from the sum of the four core rows, in which
-//! all else cancels. Each later one comes from the row that it is the last of. A row's sum stays in words from its
-//! first entry to its last. No row has two columns past the core, so a row's own column is never read again.
+//! Solves the parity columns of a word one after another. The first follows from the sum of the four core rows, in
+//! which everything else cancels, and each later one from the row whose last column it is. The sum of a row stays in
+//! words from its first entry to its last. No row has two columns past the core, so the own column of a row is never
+//! read again.
 
 ghost use Rattle.std.specs.Prelude.{◌≡◌, ℕ, ◌+◌, ◌*◌, ◌<◌, ◌≤◌, ◌==◌, length, take, unwrap_or};
 ghost use Rattle.std.specs.Prelude.{IsTrue};

@@ -1,4 +1,4 @@
-//! The words that a code block is encoded into.
+//! The words into which a code block is encoded.
 
 ghost use Rattle.std.specs.Prelude.{◌≡◌, ℕ, ◌+◌, ◌^◌, ◌<◌, ◌≤◌, ◌==◌, false, IfOk, IsTrue, length};
 ghost use Rattle.std.specs.{Prelude.replicate, Prelude.slice_set, Prelude.take, Int.bit_at};
@@ -15,8 +15,8 @@ use nr_shifttable::Table;
 use std::alloc::{AllocError, Global};
 use std::marker::Model;
 
-/// A word: a bit for each column of the parity-check matrix of a code block, 68 Zc or 52 Zc of them
-/// (TS 38.212, 5.3.2). The first K are the code block with its fillers, and the first 2 Zc are not sent.
+/// A word: one bit for each column of the parity-check matrix of a code block, which makes 68 Zc or 52 Zc bits (TS
+/// 38.212, 5.3.2). The first K are the code block with its fillers, and the first 2 Zc are never sent.
 #[derive(Debug, Drop)]
 pub struct Word {
     bits: Bits,
@@ -31,11 +31,11 @@ impl Model for Word {
 }
 
 impl Word {
-    /// The word of zeros for the code blocks of a plan.
+    /// Returns the word of zeros for the code blocks of a plan.
     ///
     /// # Errors
     ///
-    /// `AllocError`, if memory runs out.
+    /// `AllocError` if memory runs out.
     pub fn new(alloc: Global, plan: &Plan) -> Result<Word, AllocError>
         ensures { IfOk result (λ word. word
             ≡ replicate (positions_of plan.now) false) }
@@ -44,7 +44,7 @@ impl Word {
         Ok(Word { bits })
     }
 
-    /// The number of bits: 68 Zc or 52 Zc.
+    /// Returns the number of bits: 68 Zc or 52 Zc.
     pub fn len(&self) -> usize
         ensures value { result ≡ length self.now }
         ensures short { result ≤ 2 ^ 24 }
@@ -52,14 +52,14 @@ impl Word {
         self.bits.len()
     }
 
-    /// The bits, as a list to take ranges of.
+    /// Returns the bits as a list, of which ranges can be taken.
     pub fn bits(&self) -> &Bits
         ensures { result.now.items ≡ self.now }
     {
         &self.bits
     }
 
-    /// Bit `i`, counted from 0 and below the length.
+    /// Returns bit `i`, counted from 0, which must be below the length.
     pub fn get(&self, i: usize) -> bool
         requires { i < length self.now }
         ensures { result ≡ bit self.now i }
@@ -67,7 +67,7 @@ impl Word {
         self.bits.get(i)
     }
 
-    /// Puts `value` in the place of bit `i`, counted from 0 and below the length. Takes no memory.
+    /// Sets bit `i`, counted from 0, to `value`. The caller guarantees that `i` is below the length. Allocates nothing.
     pub fn set(&mut self, i: usize, value: bool)
         requires { i < length self.old }
         ensures { self.new ≡ slice_set self.old i value }
@@ -75,8 +75,8 @@ impl Word {
         self.bits.set(i, value);
     }
 
-    /// Puts the `count` lowest bits of `bits`, at most 64, in the places from bit `at` on, the lowest first. The word
-    /// has these places. Takes no memory.
+    /// Overwrites the bits from bit `at` on with the `count` lowest bits of `bits`, the lowest first. The caller
+    /// guarantees that `count` is at most 64 and that the word has these bits. Allocates nothing.
     pub fn put(&mut self, at: usize, count: usize, bits: u64)
         requires count { count ≤ 64 }
         requires inside { at + count ≤ length self.old }
@@ -99,7 +99,7 @@ impl Word {
 }
 
 /// Solves the parity columns of a word (TS 38.212, 5.3.2). The first K bits stay, and the others become those of the
-/// one word that begins with these and meets every row. Takes no memory.
+/// only word that begins with these and meets every check row. Allocates nothing.
 pub fn fill(table: &Table, plan: &Plan, word: &mut Word)
     requires graph { IsTrue (has_graph plan.now.graph table.now) }
     requires long { length word.old ≡ positions_of plan.now }

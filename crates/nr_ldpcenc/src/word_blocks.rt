@@ -1,5 +1,5 @@
-//! Blocks of as many bits as a lifting size that are written into a word, one after another. If such blocks fill words of
-//! 64 bits, they replace the bits there. Otherwise they are added to zeros, which costs less.
+//! Writes blocks of as many bits as a lifting size into a word, one after another. Blocks that fill whole 64-bit words
+//! replace the bits there. Other blocks are added to zeros, which costs less.
 
 ghost use Rattle.std.specs.Prelude.{◌≡◌, ℕ, ◌+◌, ◌*◌, ◌<◌, ◌≤◌, length};
 ghost use Rattle.nr_bitvec.specs.Bit.{bit};

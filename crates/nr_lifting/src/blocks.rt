@@ -1,5 +1,5 @@
-//! Blocks of bits at any lifting size, added up and counted 64 bits at a time. Beside the two operations are the calls that do
-//! them at a size that is known only when the program runs.
+//! Adds and counts rotated blocks of bits at any lifting size, 64 bits at a time. Besides the two operations, this
+//! module has the calls that run them at a size which is known only at run time.
 
 ghost use Rattle.std.specs.Prelude.{◌≡◌, ◌+◌, ◌<◌, ◌≤◌, length};
 ghost use Rattle.nr_lifting.specs.Blocks.{IsSize, GainsBlock, TalliesBlock};
@@ -8,9 +8,9 @@ use crate::lanes::Lane;
 use crate::sizes::{AtEachSize, AtSize, BlockOperation, at_size};
 use nr_bitvec::Bits;
 
-/// Adds to the `z` bits of `acc` from bit `at` on, modulo two, the `z` bits of `src` from bit `from` on, rotated by
-/// `p`. Bit t gains bit (t + p) mod z, so a block times a shifted identity matrix is added up (TS 38.212, 5.3.2). Takes
-/// no memory.
+/// Adds a rotated block to `acc`, modulo two: bit `at + t` of `acc` gains bit `from + (t + p) mod z` of `src`, for each
+/// t below `z`. This is the product with a circulant, the identity matrix shifted by `p` (TS 38.212, 5.3.2). Allocates
+/// nothing.
 pub fn add_block(z: usize, acc: &mut Bits, at: usize, src: &Bits, from: usize, p: usize)
     requires size { IsSize z }
     requires place { at + z ≤ length acc.old.items }
@@ -31,9 +31,8 @@ pub fn add_block(z: usize, acc: &mut Bits, at: usize, src: &Bits, from: usize, p
     );
 }
 
-/// Tallies a rotated block, saturating at two. Let u be the bit (t + p) mod z of the `z` bits of `src` from bit `from`
-/// on, for each t below `z`. Bit t of `more` is set if bit t of `ones` and u are, and then bit t of `ones` if u is. Takes
-/// no memory.
+/// Counts the bits of a rotated block, up to two. For each t below `z`, let u be bit `from + (t + p) mod z` of `src`:
+/// if u is set, bit t of `ones` becomes set, and bit t of `more` too if `ones` had it already. Allocates nothing.
 pub fn tally_block(z: usize, ones: &mut Bits, more: &mut Bits, src: &Bits, from: usize, p: usize)
     requires size { IsSize z }
     requires ones { z ≤ length ones.old.items }

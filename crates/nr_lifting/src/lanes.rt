@@ -1,4 +1,4 @@
-//! Lanes of bits in words of 64, lanes that are kept twice over, and counts that fall by a lane.
+//! Lanes of bits in 64-bit words, lanes stored twice over, and counts that are lowered by a lane at a time.
 
 mod bit_sliced_counts;
 mod doubled_lanes;

@@ -1,4 +1,4 @@
-//! The table of the lifting sizes, and the choice of one for an operation.
+//! The table of the lifting sizes, and running an operation at one of them.
 
 mod choice;
 mod table;

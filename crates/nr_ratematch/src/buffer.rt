@@ -13,9 +13,8 @@ use nr_graphpick::Graph;
 use nr_segment::Plan;
 use std::marker::Model;
 
-/// The circular buffer of the code blocks of a plan (TS 38.212, 5.4.2.1). It has all N bits of a codeword after the
-/// punctured ones, or the first Nref of them. Contracts see it as the numbers that selection rests on, and Ncb among
-/// them.
+/// The circular buffer of the code blocks of a plan (TS 38.212, 5.4.2.1): all N bits of a codeword after the punctured
+/// ones, or only the first Nref of them. Contracts see it as the numbers that selection depends on, Ncb among them.
 #[derive(Clone, Copy, Debug, PartialEq, Eq)]
 pub struct Buffer {
     graph: Graph,
@@ -61,12 +60,12 @@ fn start_columns_of(graph: Graph) -> [u32; 4]
 }
 
 impl Buffer {
-    /// The buffer of each code block of a plan, limited if `lbrm` gives TBS_LBRM, in bits. It keeps the first Nref =
-    /// 3 TBS_LBRM / (2 C) bits, rounded down (TS 38.212, 5.4.2.1, with R_LBRM = 2/3). Takes no memory.
+    /// Returns the buffer of each code block of a plan. If `lbrm` gives TBS_LBRM in bits, the buffer is limited to the
+    /// first Nref = 3 TBS_LBRM / (2 C) bits, rounded down (TS 38.212, 5.4.2.1, with R_LBRM = 2/3). Allocates nothing.
     ///
     /// # Errors
     ///
-    /// `NoBuffer`, if Nref is 0.
+    /// `NoBuffer` if Nref is 0.
     pub fn new(plan: &Plan, lbrm: Option<u32>) -> Result<Buffer, RmFault>
         ensures { result ≡ buffer_said plan.now.graph (numbers plan.now) lbrm }
     {
@@ -87,12 +86,12 @@ impl Buffer {
         })
     }
 
-    /// The buffer of a code block by its own numbers (TS 38.212, 5.3.2 and 5.4.2.1). They are the lifting size `z`, how many
-    /// fillers it has, and Ncb. Takes no memory.
+    /// Returns the buffer of a code block given by its own numbers: the lifting size `z`, the number of its fillers,
+    /// and Ncb (TS 38.212, 5.3.2 and 5.4.2.1). Allocates nothing.
     ///
     /// # Errors
     ///
-    /// `NoBuffer`, if `ncb` is not 1 to N.
+    /// `NoBuffer` if `ncb` is not within 1 to N.
     pub fn by_numbers(graph: Graph, z: u32, fillers: u32, ncb: u32) -> Result<Buffer, RmFault>
         requires some { 0 < z }
         requires lifted { z ≤ 384 }
@@ -112,7 +111,7 @@ impl Buffer {
         })
     }
 
-    /// Ncb, the bits that the buffer keeps of a code block: 1 to N, at most 25,344.
+    /// Returns Ncb, the number of bits of a code block that the buffer keeps: 1 to N, at most 25,344.
     pub fn ncb(&self) -> u32
         ensures { result ≡ self.now.ncb }
     {
@@ -120,8 +119,8 @@ impl Buffer {
         *ncb
     }
 
-    /// k0, the place in the buffer where the redundancy version `rv` begins, below Ncb
-    /// (TS 38.212, Table 5.4.2.1-2).
+    /// Returns k0, the index in the buffer at which the redundancy version `rv` begins, below Ncb (TS 38.212, Table
+    /// 5.4.2.1-2).
     #[tactic(auto, unfolding(crate::specs::Selection::start_of))]
     pub fn start(&self, rv: u32) -> u32
         requires { rv < 4 }
@@ -132,8 +131,8 @@ impl Buffer {
         column * self.ncb / ((self.graph.cols() - 2) * self.z) * self.z
     }
 
-    /// The position in the codeword of the bit `k` that the redundancy version `rv` selects (TS 38.212, 5.4.2.1).
-    /// Selection goes round and round the buffer from its start on, without the fillers. Takes no memory.
+    /// Returns the codeword index of bit `k` of those that the redundancy version `rv` selects (TS 38.212, 5.4.2.1).
+    /// Selection goes round the buffer from its start, again and again, and skips the fillers. Allocates nothing.
     pub fn place(&self, rv: u32, k: u32) -> u32
         requires { rv < 4 }
         ensures value { result ≡ place_of self.now rv k }
@@ -142,10 +141,9 @@ impl Buffer {
         self.cycle(rv).place(k)
     }
 
-    /// A run of the bits that the redundancy version `rv` selects, from bit `k` on. It is the position in the codeword
-    /// of bit `k`, and how many bits have it and the positions after it, one after another. They are 1 to `most`. A run
-    /// may end before the fillers, at the end of the buffer, or where the start comes again (TS 38.212, 5.4.2.1). Takes no
-    /// memory.
+    /// Returns a run of the bits that the redundancy version `rv` selects from bit `k` on: the codeword index of bit
+    /// `k`, and how many bits have that index and the ones after it in a row, from 1 to `most`. A run may end before
+    /// the fillers, at the end of the buffer, or where the start comes again (TS 38.212, 5.4.2.1). Allocates nothing.
     pub fn run(&self, rv: u32, k: u32, most: u32) -> (u32, u32)
         requires version { rv < 4 }
         requires most { 0 < most }
@@ -161,8 +159,8 @@ impl Buffer {
         (position, run.min(most))
     }
 
-    /// How many bits the redundancy version `rv` selects until it comes round to the first of them again (TS 38.212,
-    /// 5.4.2.1). It is Ncb without the fillers in the buffer. Takes no memory.
+    /// Returns how many bits the redundancy version `rv` selects before it comes back to the first of them, which is
+    /// the number of bits in the buffer that are not fillers (TS 38.212, 5.4.2.1). Allocates nothing.
     pub fn turn(&self, rv: u32) -> u32
         requires { rv < 4 }
         ensures value { result ≡ length (live self.now rv) }

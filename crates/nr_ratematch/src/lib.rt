@@ -1,10 +1,11 @@
-//! Rate matching for the LDPC code of NR (TS 38.212, 5.4.2): how many bits of each code block are sent, and which.
-//! Contracts cite specs/Lengths.antt and specs/Selection.antt: once round the whole circular buffer, without its
-//! fillers. A selected position is never punctured and no filler, by a law. Only `select` takes memory.
+//! Rate matching for the LDPC code of NR (TS 38.212, 5.4.2): how many bits of each code block are sent, and which ones.
+//! Contracts cite specs/Lengths.antt and specs/Selection.antt, which defines selection as going round the circular
+//! buffer without its fillers. By a law, a selected bit is never punctured and never a filler. Only `select` allocates
+//! memory.
 //!
-//! Inside, `lengths` shares the bits out to the scheduled code blocks. A `Buffer` says which position of the codeword
-//! each selected bit has, from the redundancy version's start on. `select` and `select_onto` take the bits, a run of
-//! the buffer at a time.
+//! `lengths` shares the bits of a transmission out to the scheduled code blocks. A `Buffer` tells the codeword index of
+//! each selected bit, counted from the start of the redundancy version. `select` and `select_onto` copy the bits, a run
+//! of the buffer at a time.
 #![tactic(auto)]
 
 mod buffer;

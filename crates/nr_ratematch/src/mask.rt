@@ -1,22 +1,22 @@
-//! Which code blocks of a transmission are scheduled.
+//! The CBG mask: which code blocks of a transmission are scheduled.
 
 ghost use Rattle.std.specs.Prelude.{◌≡◌, ℕ, ◌<◌, ◌≤◌, false, get_or, length};
 ghost use Rattle.nr_ratematch.specs.{Lengths.is_scheduled, Marks.mask_word_of, Marks.mask_words};
 ghost use Rattle.nr_ratematch.specs.declared.mask.Mask.TheVariants.{Only};
 
-/// Which code blocks are scheduled for a transmission (TS 38.212, 5.4.2.1).
+/// The CBG mask: which code blocks are scheduled for a transmission (TS 38.212, 5.4.2.1).
 #[derive(Clone, Copy, Debug, PartialEq, Eq)]
 pub enum Mask {
     /// Every code block.
     All,
-    /// Code block r, counted from 0, if bit r mod 64 of word r div 64 is set. Bits from C, the number of code
-    /// blocks, on say nothing.
+    /// Code block r, counted from 0, if bit r mod 64 of word r div 64 is set. Bits from C, the number of code blocks,
+    /// on are ignored.
     Only([u64; 6]),
 }
 
 impl Mask {
-    /// The mask that schedules the code blocks that are marked: one mark for each of 384, counted from 0 (TS 38.212,
-    /// 5.4.2.1). Takes no memory.
+    /// Returns the mask that schedules the marked code blocks. There is one mark for each of at most 384 code blocks,
+    /// counted from 0 (TS 38.212, 5.4.2.1). Allocates nothing.
     pub fn of_marks(marks: &[bool]) -> Mask
         requires { length marks.now ≡ 384 }
         ensures words { result ≡ Only (mask_words marks.now) }
@@ -32,7 +32,7 @@ impl Mask {
         ])
     }
 
-    /// Whether code block `r`, below 384, is scheduled (TS 38.212, 5.4.2.1). Takes no memory.
+    /// Returns whether code block `r`, which is below 384, is scheduled (TS 38.212, 5.4.2.1). Allocates nothing.
     pub fn has(&self, r: u32) -> bool
         requires { r < 384 }
         ensures { result ≡ is_scheduled self.now r }

@@ -9,12 +9,12 @@ use nr_bitvec::Bits;
 use nr_ldpcenc::Word;
 use std::alloc::{AllocError, Global};
 
-/// The `e` bits, at most 2^24, that the redundancy version `rv` selects from the codeword of a code block (TS 38.212,
-/// 5.4.2.1). They are the bits at the positions that `Buffer::place` says.
+/// Returns the `e` bits, at most 2^24, that the redundancy version `rv` selects from the codeword of a code block: bit
+/// k is the one at the codeword index `Buffer::place(rv, k)` (TS 38.212, 5.4.2.1).
 ///
 /// # Errors
 ///
-/// `AllocError`, if memory runs out.
+/// `AllocError` if memory runs out.
 pub fn select(
     alloc: Global,
     buffer: &Buffer,
@@ -52,8 +52,7 @@ fn select_runs(buffer: &Buffer, word: &Word, rv: u32, e: u32, bits: &mut Bits)
     }
 }
 
-/// Puts the bits that `select` returns at the end of a list that has room for them (TS 38.212, 5.4.2.1). Takes no
-/// memory.
+/// Appends the bits that `select` returns to a list that has room for them (TS 38.212, 5.4.2.1). Allocates nothing.
 pub fn select_onto(buffer: &Buffer, word: &Word, rv: u32, e: u32, bits: &mut Bits)
     requires version { rv < 4 }
     requires long { length word.now ≡ cols_of buffer.now.graph * buffer.now.z }

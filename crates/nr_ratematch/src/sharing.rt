@@ -9,7 +9,7 @@ use crate::mask::Mask;
 use arrayvec::ArrayVec;
 use nr_segment::Plan;
 
-/// The most code blocks of a transport block (TS 38.212, 5.2.2).
+/// The largest number of code blocks of a transport block (TS 38.212, 5.2.2).
 pub const MOST_BLOCKS: usize = 344;
 
 // The most bits that a transmission has.
@@ -74,19 +74,19 @@ fn shares(mask: &Mask, c: u32, unit: u32, symbols: u32) -> ArrayVec<u32, MOST_BL
     lengths
 }
 
-/// E_r of each code block of a plan, in order (TS 38.212, 5.4.2.1). It is how many of the `g` bits of a transmission
-/// the block has, 0 if it is not scheduled. `qm` is the modulation order, and `nl` the number of transmission
-/// layers. Each E_r is a multiple of `qm`, and together they are `g`. Takes no memory.
+/// Returns E_r for each code block of a plan, in order: how many of the `g` bits of a transmission the code block gets,
+/// which is 0 if it is not scheduled (TS 38.212, 5.4.2.1). `qm` is the modulation order and `nl` the number of
+/// transmission layers. Each E_r is a multiple of `qm`, and they add up to `g`. Allocates nothing.
 ///
 /// # Errors
 ///
 /// In this order:
 ///
-/// - `Order`, if `qm` is none of 1, 2, 4, 6 and 8;
-/// - `Layers`, if `nl` is not 1 to 4;
-/// - `Total`, if `g` is not 1 to 4,194,304;
-/// - `Ragged`, if `g` is no multiple of `nl * qm`;
-/// - `NoneScheduled`, if the mask has no code block of the plan.
+/// 1. `Order` if `qm` is not 1, 2, 4, 6 or 8
+/// 2. `Layers` if `nl` is not within 1 to 4
+/// 3. `Total` if `g` is not within 1 to 4,194,304
+/// 4. `Ragged` if `g` is not a multiple of `nl * qm`
+/// 5. `NoneScheduled` if the mask has no code block of the plan
 #[tactic(auto, unfolding(crate::specs::Lengths::lengths_said))]
 pub fn lengths(
     plan: &Plan,
@@ -117,8 +117,8 @@ pub fn lengths(
     Ok(shares(&mask, plan.c, unit, g / unit))
 }
 
-/// Law: the lengths are one a code block, each a multiple of Qm, and together all bits of the transmission
-/// (TS 38.212, 5.4.2.1).
+/// Law: there is one length for each code block, each is a multiple of Qm, and they add up to the bits of the
+/// transmission (TS 38.212, 5.4.2.1).
 pub fn lengths_are_shared()
     ensures { LengthsAreShared }
 {}

@@ -1,7 +1,7 @@
-//! The words in which the contracts of the crates above speak of a refusal. A step-by-step definition says which fault
-//! is the first, and that one is returned. "Out of memory" is the only other fault (`Gives`). A Source or a Sink counts
-//! its failures by `FailsAs`.
+//! The vocabulary in which contracts say how a call fails: a step-by-step definition fixes which error comes first, the
+//! call returns exactly that one, and running out of memory is the only other error (`Gives`). Calls that read a Source
+//! or write a Sink count its failures with `FailsAs`.
 //!
-//! All of it is in specs/Refusal.antt, and lemmas about it are in proofs/. The crate has no code and takes no memory.
-//! No clause of TS 38.212 is about it.
+//! Everything is defined in specs/Refusal.antt, with lemmas in proofs/. The crate has no code and allocates nothing,
+//! and no clause of TS 38.212 is about it.
 #![tactic(auto)]

@@ -1,4 +1,4 @@
-//! Code blocks: the transport block's bits that they hold, and the CRC24B of each of several.
+//! Code blocks: which bits of the transport block they carry, and the CRC24B of each if there are several.
 
 ghost use Rattle.std.specs.Prelude.{◌≡◌, ◌-◌, ◌<◌, length, map, IfOk, All};
 ghost use Rattle.nr_segment.specs.CodeBlock.{numbers, part_of, code_bits, joined_blocks};
@@ -8,7 +8,7 @@ use nr_bitvec::Bits;
 use nr_crcattach::attach_code_range;
 use std::alloc::{AllocError, Global};
 
-/// The index in the transport block of information bit `k` of code block `r` (TS 38.212, 5.2.2).
+/// Returns the index in the transport block of information bit `k` of code block `r` (TS 38.212, 5.2.2).
 pub fn part(plan: &Plan, r: u32, k: u32) -> u32
     requires block { r < plan.now.c }
     requires bit { k < plan.now.kdash - plan.now.l }
@@ -18,12 +18,12 @@ pub fn part(plan: &Plan, r: u32, k: u32) -> u32
     r * (plan.kdash - plan.l) + k
 }
 
-/// The K' bits of code block `r` of the transport block `bits` (TS 38.212, 5.2.2). They are its share of the bits and,
-/// if there are several code blocks, their CRC24B.
+/// Returns the K' bits of code block `r` of the transport block `bits`: its share of the bits, followed by their CRC24B
+/// if there are several code blocks (TS 38.212, 5.2.2).
 ///
 /// # Errors
 ///
-/// `AllocError`, if memory runs out.
+/// `AllocError` if memory runs out.
 pub fn cut(alloc: Global, plan: &Plan, bits: &Bits, r: u32) -> Result<Bits, AllocError>
     requires whole { length bits.now.items ≡ plan.now.b }
     requires block { r < plan.now.c }
@@ -38,12 +38,12 @@ pub fn cut(alloc: Global, plan: &Plan, bits: &Bits, r: u32) -> Result<Bits, Allo
     }
 }
 
-/// The bits of the transport block, from the K' bits of each code block in order. The CRC24B of each is
-/// dropped, and not tested.
+/// Returns the bits of the transport block, given the K' bits of each code block in order. The CRC24B of each code
+/// block is dropped without being checked.
 ///
 /// # Errors
 ///
-/// `AllocError`, if memory runs out.
+/// `AllocError` if memory runs out.
 pub fn join(alloc: Global, plan: &Plan, blocks: &[Bits]) -> Result<Bits, AllocError>
     requires all { length blocks.now ≡ plan.now.c }
     requires long { All (λ block. length block.items ≡ plan.now.kdash) blocks.now }

@@ -1,10 +1,10 @@
-//! Laws of plans and of code blocks, stated as contracts of empty functions.
+//! Laws about segmentation and code blocks, stated as contracts of empty functions.
 
 ghost use Rattle.nr_segment.specs.CodeBlock.{CodeBlocksAreLong, FilledBlocksAreLong, JoinPutsParts, JoinUndoesCut};
 ghost use Rattle.nr_segment.specs.Plan.{PlansAreSound};
 
-/// Law: what is true of the numbers of every plan (TS 38.212, 5.3.2). Among them is that K' is above 2 Zc, so that not all
-/// bits of a code block are punctured.
+/// Law: what holds for the numbers of every plan (TS 38.212, 5.3.2). Among other things, K' is above 2 Zc, so that not
+/// all bits of a code block are punctured.
 pub fn plans_are_sound()
     ensures { PlansAreSound }
 {}

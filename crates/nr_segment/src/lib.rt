@@ -1,10 +1,10 @@
-//! The segmentation of a transport block into code blocks (TS 38.212, 5.2.2 and 5.3.2). `plan` returns the numbers of a
-//! segmentation, or why there is none. Its contract has each number as the standard words it (specs/Plan.antt). `cut`
-//! makes one code block of a transport block with its CRC, and `join` undoes it, by a proved law
-//! (specs/CodeBlock.antt).
+//! The segmentation of a transport block into code blocks (TS 38.212, 5.2.2 and 5.3.2). `plan` returns the segmentation
+//! parameters, or the reason why there are none; its contract defines each number as the standard does
+//! (specs/Plan.antt). `cut` returns one code block of a transport block with its CRC, and `join` puts the code blocks
+//! together again, which is a proved law (specs/CodeBlock.antt).
 //!
-//! Inside, a `Plan` always holds the numbers of its base graph and of B. `part` says where a bit comes from. `plan` and
-//! `part` take no memory.
+//! A `Plan` can only hold the numbers that belong to its base graph and to B, because its type says so. `part` tells
+//! where a bit of a code block comes from. `plan` and `part` allocate nothing.
 #![tactic(auto)]
 
 mod code_block;

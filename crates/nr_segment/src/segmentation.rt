@@ -1,4 +1,4 @@
-//! The plan of a transport block.
+//! Computes the segmentation parameters of a transport block.
 
 ghost use Rattle.std.specs.Prelude.{◌≡◌, IfOk, IfErr, Ok, Err};
 ghost use Rattle.nr_segment.specs.CodeBlock.{numbers};
@@ -55,12 +55,15 @@ fn info_columns_of(graph: Graph, b: u32) -> u32
     }
 }
 
-/// The plan by which `b` bits, a transport block with its CRC, are cut into code blocks (TS 38.212, 5.2.2).
+/// Returns the segmentation parameters for `b` bits, which are a transport block with its CRC (TS 38.212, 5.2.2).
 ///
 /// # Errors
 ///
-/// In this order: `Short`, if `b` is below 24; `Long`, if `b` is above 1,310,744. Then `Uneven`, if the code blocks
-/// would not have equally many bits.
+/// In this order:
+///
+/// 1. `Short` if `b` is below 24
+/// 2. `Long` if `b` is above 1,310,744
+/// 3. `Uneven` if the code blocks would not all have the same number of bits
 #[tactic(auto, unfolding(crate::specs::Plan::plan_of))]
 pub fn plan(graph: Graph, b: u32) -> Result<Plan, SegFault>
     ensures for_these { IfOk result (λ plan. (plan.graph ≡ graph) × (plan.b ≡ b)) }

@@ -1,4 +1,4 @@
-//! The shape that an accepted table has in its parity columns (TS 38.212 clause 5.3.2).
+//! The shape that an accepted table has in its parity columns (TS 38.212, 5.3.2).
 
 ghost use Rattle.std.specs.Prelude.{◌≡◌, ◌≤◌};
 ghost use Rattle.nr_shifttable.specs.FirstFault.{is_zero, zero_at, lone_zero, zero_pair, two_agree, three_agree, rows_agree};
@@ -137,8 +137,8 @@ fn rows_present(rows: u32, entries: &Sorted) -> bool
     true
 }
 
-/// Judges the entries of one base graph. A table need not have the graph, so no entry at all is
-/// well.
+/// Checks the entries of one base graph. A table does not need to have the graph, so having no entry at all is
+/// accepted.
 ///
 /// # Errors
 ///

@@ -1,4 +1,4 @@
-//! The items of a table file: its records, judged one by one.
+//! The items of a table file: its records, checked one by one.
 
 ghost use Rattle.std.specs.Prelude.{◌≡◌, ◌^◌, ◌<◌, [], length, drop, nat_lt, if◌then◌else◌, Some, None, All};
 ghost use Rattle.std.specs.{Prelude.IfOk, Prelude.OnErr, Prelude.OnOk, List.list_all};
@@ -19,13 +19,13 @@ use std::alloc::{AllocError, Global};
 // How many fields a record has: base graph, row, column, and a value for each lifting-size set.
 const FIELDS: usize = 11;
 
-/// The items of a table file's text, in the order of its records. Each has a row and a column of
-/// its base graph, and no two are at one place.
+/// Returns the items of a table file's text, in the order of its records. The row and the column of each lie within its
+/// base graph, and no two items have the same place.
 ///
 /// # Errors
 ///
-/// For the first record that has one, `Fields` or `Csv`, `Number`, `Range`, `Twice`, in this order;
-/// `Memory` if a growth is refused.
+/// For the first record that has an error, `Fields` or `Csv`, `Number`, `Range`, `Twice`, in this order; `Memory` if
+/// memory runs out.
 pub fn read_items(alloc: Global, text: &[u8]) -> Result<Vec<Item>, TableFault>
     requires { length text.now < 2 ^ 32 }
     ensures said { Gives TableFault.Memory (λ v. v.items) result (items_said text.now) }
@@ -68,7 +68,7 @@ fn add(items: &mut Vec<Item>, past: u32, found: Option<Item>) -> Result<u32, All
     Ok(past.max(next))
 }
 
-/// The key of a place: base graph 1 comes before base graph 2, and each goes row by row.
+/// Returns a number by which places are sorted: base graph 1 before base graph 2, and each of them row by row.
 pub(crate) fn place_key(graph: Graph, row: u16, col: u16) -> u32
     ensures key { result ≡ key_of graph row col }
     ensures few { result < 2 ^ 24 }

@@ -1,8 +1,10 @@
-//! The shift table of the LDPC codes of NR (3GPP TS 38.212, 5.3.2), read from a file of the user's. `Table::read`
-//! accepts exactly the files whose parity columns have the shape that encoding and peeling rest on. Of any other it
-//! returns the first fault. The result is `table_said` of the file's octets (specs/Accepted.antt).
+//! The shift table of the LDPC codes of NR (3GPP TS 38.212, 5.3.2), read from a file that the user supplies.
+//! `Table::read` accepts exactly the files whose parity columns have the shape that encoding and peeling rely on, and
+//! returns the first error of any other. The result is defined as `table_said` of the file's octets
+//! (specs/Accepted.antt).
 //!
-//! Inside, a `Table` is that set of entries, which its other calls read. `laws` say what follows from its shape.
+//! A `Table` is the set of entries that was accepted, and its other calls read that set. `laws` say what follows from
+//! its shape.
 #![tactic(auto)]
 
 mod accept;

@@ -1,4 +1,4 @@
-//! The places of entries that a caller kept.
+//! Checks the places of entries that a caller stores.
 
 ghost use Rattle.std.specs.Prelude.{◌≡◌, ◌-◌, ◌^◌, ◌<◌, ◌≤◌, All, IfSome, None, Ok, OnOk, Some, drop};
 ghost use Rattle.std.specs.Prelude.{if◌then◌else◌, length, map, take};
@@ -12,11 +12,11 @@ use crate::items::place_key;
 use crate::laws;
 use nr_graphpick::Graph;
 
-/// Judges the places of entries, one by one: each is within its base graph, and past the one before it.
+/// Checks entry by entry that each lies within its base graph and comes after the one before it.
 ///
 /// # Errors
 ///
-/// For the first entry that has one, `Range` or `Order`, in this order, with its number from 1.
+/// For the first entry that has an error, `Range` or `Order`, in this order, with its number counted from 1.
 #[tactic(auto, unfolding(crate::specs::Listed::places_from))]
 pub(crate) fn judge_places(entries: &[KeptEntry]) -> Result<(), EntriesFault>
     ensures said { result ≡ places_said entries.now }
@@ -66,7 +66,7 @@ fn key_in(graph: Graph, entry: &Entry) -> Option<u32>
     }
 }
 
-/// How many of the entries are of base graph 1. The entries ascend, so these are the first.
+/// Returns how many of the entries belong to base graph 1. Since the entries ascend, they are the first ones.
 pub(crate) fn ones_in(entries: &[KeptEntry]) -> usize
     requires { places_said entries.now ≡ Ok tt }
     ensures bound { result ≤ length entries.now }

@@ -1,5 +1,5 @@
-//! Where the entries of each row and of each column begin. A base graph has 46 rows and 68 columns
-//! at most, 3,128 places, so a start has 16 bits.
+//! Where the entries of each row and of each column begin. A base graph has at most 46 rows and 68 columns, which make
+//! 3,128 places, so an index fits into 16 bits.
 
 ghost use Rattle.std.specs.Prelude.{◌≡◌, ◌+◌, ◌<◌, ◌≤◌, All, length};
 ghost use Rattle.nr_shifttable.specs.Tails.{row_of, column_of};
@@ -7,10 +7,10 @@ ghost use Rattle.nr_shifttable.specs.inside.Orders.{AreRowEnds, AreRowStarts, Ar
 
 use crate::entry::Entry;
 
-/// One more than a base graph has rows at most, so that the last row has an end too.
+/// One more than the largest number of rows of a base graph, so that the last row has an end too.
 pub(crate) const ROWS: usize = 47;
 
-/// One more than a base graph has columns at most.
+/// One more than the largest number of columns of a base graph.
 pub(crate) const COLS: usize = 69;
 
 // Of each row and of the one after the last, how many entries there are up to the last one of the row before it. It is 0
@@ -29,7 +29,7 @@ fn row_ends(entries: &[Entry]) -> [u16; ROWS]
     ends
 }
 
-/// For each row, how many entries there are in the rows before it, if the entries are in ascending order.
+/// Returns for each row how many entries there are in the rows before it. The entries ascend.
 pub(crate) fn row_starts(entries: &[Entry]) -> [u16; ROWS]
     requires order { Ascending 0 entries.now }
     requires short { All (λ e. e.row < 46) entries.now }
@@ -44,7 +44,7 @@ pub(crate) fn row_starts(entries: &[Entry]) -> [u16; ROWS]
     starts
 }
 
-/// The entries of a row.
+/// Returns the entries of a row.
 pub(crate) fn row_between<'a>(entries: &'a [Entry], starts: &[u16; ROWS], row: usize) -> &'a [Entry]
     requires starts { AreRowStarts 47 entries.now starts.now }
     requires row { row + 1 < 47 }
@@ -53,7 +53,7 @@ pub(crate) fn row_between<'a>(entries: &'a [Entry], starts: &[u16; ROWS], row: u
     &entries[usize::from(starts[row])..usize::from(starts[row + 1])]
 }
 
-/// The entries of a column.
+/// Returns the entries of a column.
 pub(crate) fn col_between<'a>(entries: &'a [Entry], starts: &[u16; COLS], col: usize) -> &'a [Entry]
     requires starts { AreColumnStarts 69 entries.now starts.now }
     requires col { col + 1 < 69 }

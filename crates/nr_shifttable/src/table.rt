@@ -24,9 +24,8 @@ use std::marker::Model;
 // The most octets that a table file may have.
 const LIMIT: usize = 4_194_304;
 
-/// A table of shift values that was accepted: the entries of base graph 1, of base graph 2, or of
-/// both (TS 38.212 clause 5.3.2). What is asked of it takes no memory, and a row or a column is
-/// found by an index.
+/// An accepted table of shift values: the entries of base graph 1, of base graph 2, or of both (TS 38.212, 5.3.2).
+/// Reading it allocates nothing, and a row or a column is found through an index.
 #[derive(Drop)]
 pub struct Table {
     one: Sorted,
@@ -44,17 +43,17 @@ impl Model for Table {
 }
 
 impl Table {
-    /// Reads a table file to its end and judges it.
+    /// Reads a table file to its end and checks it.
     ///
     /// The file is CSV text. Each record has eleven fields: base graph (1 or 2), row, column, and the shift values of
-    /// the eight lifting-size sets. TS 38.212, Tables 5.3.2-2 and 5.3.2-3 give them. A first record that begins with
+    /// the eight lifting-size sets, as TS 38.212, Tables 5.3.2-2 and 5.3.2-3 give them. A first record that begins with
     /// `graph` is a header. The order of the records does not matter.
     ///
     /// # Errors
     ///
-    /// In the order of `TableFault`'s description: `Read`, if a pull failed before more than 4,194,304 octets came, or
-    /// `TooLong`. Then record by record `Csv`, `Fields`, `Number`, `Range`, `Twice`. Then `Empty`; then by base graph
-    /// `Core`, `Extension`, `MissingRow`. `Memory` comes when a growth is refused.
+    /// In the order that `TableFault` describes: `Read` if a pull fails before more than 4,194,304 octets came, or
+    /// `TooLong`; then, record by record, `Csv`, `Fields`, `Number`, `Range`, `Twice`; then `Empty`; then, by base
+    /// graph, `Core`, `Extension`, `MissingRow`. `Memory` is returned when memory runs out.
     pub fn read<S: Source>(alloc: Global, source: &mut S) -> Result<Table, TableFault>
         requires { S.failures source.old < 2 ^ 32 }
         ensures table { IfOk result IsTable }
@@ -73,13 +72,13 @@ impl Table {
         Table::of_text(alloc, &text)
     }
 
-    /// The table of a whole text in memory, judged: what `read` makes of a source that gives these
+    /// Checks the text of a table file that is in memory, and returns what `read` returns for a source that gives these
     /// octets and then ends.
     ///
     /// # Errors
     ///
-    /// `TooLong`, if the text has more than 4,194,304 octets, and then never `Memory`; then as `read`
-    /// from `Csv` on. It is never `Read`.
+    /// `TooLong` if the text has more than 4,194,304 octets, and never `Memory` in that case; then the errors of `read`
+    /// from `Csv` on. `Read` is never returned.
     #[tactic(auto, unfolding(crate::specs::Accepted::table_said))]
     pub fn of_text(alloc: Global, text: &[u8]) -> Result<Table, TableFault>
         ensures table { IfOk result IsTable }
@@ -94,16 +93,16 @@ impl Table {
         Table::from_items(alloc, &items)
     }
 
-    /// The table of entries that a caller kept, judged: the entries of both base graphs in ascending order. Those of
-    /// base graph 1 are before those of base graph 2, and each graph's by row and then by column. `item` lists a
-    /// table's.
+    /// Checks stored entries and returns the table that they make. They must ascend: those of base graph 1 come before
+    /// those of base graph 2, and those of a graph are sorted by row and then by column, as `item` lists them.
     ///
     /// # Errors
     ///
-    /// First the first entry with a fault, by its number from 1. It is `Range`, if its base graph is neither 1 nor 2
-    /// or lacks its row or its column. Otherwise it is `Order`, if it does not come after the entry before it. Then `Table`:
-    /// with `Empty`, if there is no entry. For each base graph that has an entry, base graph 1 first, with `Core`,
-    /// `Extension` or `MissingRow`. `Memory` comes when a growth is refused, and never in place of `Range` or `Order`.
+    /// The first entry that has an error decides: `Range` with its number, counted from 1, if its base graph is neither
+    /// 1 nor 2 or does not have its row or its column; otherwise `Order`, if it does not come after the entry before
+    /// it. Then `Table`: with `Empty` if there is no entry, or for each base graph that has an entry, base graph 1
+    /// first, with `Core`, `Extension` or `MissingRow`. `Memory` is returned when memory runs out, but never in place
+    /// of `Range` or `Order`.
     #[tactic(auto, unfolding(crate::specs::Listed::entries_said))]
     pub fn of_entries(alloc: Global, entries: &[KeptEntry]) -> Result<Table, EntriesFault>
         ensures table { IfOk result IsTable }
@@ -119,13 +118,12 @@ impl Table {
         }
     }
 
-    /// The table of a list of items, judged.
+    /// Checks a list of items and returns the table that they make.
     ///
     /// # Errors
     ///
-    /// In this order: `Empty`, if there is no item. Then, for each base graph that has an entry,
-    /// base graph 1 first, `Core`, `Extension` and `MissingRow`. `Memory` comes when a growth is
-    /// refused.
+    /// In this order: `Empty` if there is no item; then, for each base graph that has an entry, base graph 1 first,
+    /// `Core`, `Extension` and `MissingRow`. `Memory` is returned when memory runs out.
     pub(crate) fn from_items(alloc: Global, items: &[Item]) -> Result<Table, TableFault>
         requires apart { Apart items.now }
         requires in_range { All IsInside items.now }
@@ -168,7 +166,7 @@ impl Table {
         Ok(Table { one, two })
     }
 
-    /// Tells what the type promises of each table, at no cost: a proof opens the type when a field is named.
+    /// States what the type promises of each table, at no cost, because a proof opens the type when a field is named.
     pub(crate) fn is_sound(&self)
         ensures { IsTable self.now }
     {
@@ -186,8 +184,8 @@ impl Table {
         }
     }
 
-    /// Whether the table has an entry of the base graph. If it has one, it has all that an accepted
-    /// table must have.
+    /// Returns whether the table has entries of the base graph. If it has any, it has all that an accepted table must
+    /// have.
     pub fn has(&self, graph: Graph) -> bool
         ensures table { IsTable self.now }
         ensures value { result ≡ has_graph graph self.now }
@@ -198,8 +196,8 @@ impl Table {
         }
     }
 
-    /// The shift value V at a row and a column of a base graph, for the lifting-size set `set` in 0..=7. It is as
-    /// it was read, not reduced modulo a lifting size. `None` if there is no entry.
+    /// Returns the shift value V at a row and a column of a base graph for the lifting-size set `set` in 0..=7, as the
+    /// file has it, not reduced modulo a lifting size, or `None` if there is no entry.
     pub fn shift(&self, graph: Graph, row: u32, col: u32, set: u32) -> Option<u16>
         requires { set < 8 }
         ensures table { IsTable self.now }
@@ -212,7 +210,7 @@ impl Table {
         }
     }
 
-    /// The entries of a row of a base graph, in ascending order of their columns.
+    /// Returns the entries of a row of a base graph, sorted by column.
     pub fn row_entries(&self, graph: Graph, row: u32) -> &[Entry]
         ensures table { IsTable self.now }
         ensures entries { result.now ≡ row_of (entries_in graph self.now) row }
@@ -222,7 +220,7 @@ impl Table {
         self.sorted(graph).row(row)
     }
 
-    /// The entries of a column of a base graph, in ascending order of their rows.
+    /// Returns the entries of a column of a base graph, sorted by row.
     pub fn col_entries(&self, graph: Graph, col: u32) -> &[Entry]
         ensures table { IsTable self.now }
         ensures entries { result.now ≡ column_of (entries_in graph self.now) col }
@@ -232,9 +230,9 @@ impl Table {
         self.sorted(graph).column(col)
     }
 
-    /// The table's item of this number, from 0: its entries in ascending order. Those of base graph 1 are before
-    /// those of base graph 2, and each graph's by row and then by column. `None` past the last one. `of_entries` makes
-    /// the same table of all items, as `KeptEntry::of` has them.
+    /// Returns the item of this number, counted from 0, or `None` past the last one. The items ascend: those of base
+    /// graph 1 come before those of base graph 2, and those of a graph are sorted by row and then by column.
+    /// `of_entries` makes the same table of all items, in the form of `KeptEntry::of`.
     pub fn item(&self, n: u32) -> Option<Item>
         ensures table { IsTable self.now }
         ensures value { result ≡ slice_get (items_listed self.now) n }
@@ -257,7 +255,7 @@ impl Table {
         None
     }
 
-    /// How many entries the table has of a base graph.
+    /// Returns how many entries the table has of a base graph.
     pub fn entries(&self, graph: Graph) -> u32
         ensures table { IsTable self.now }
         ensures value { result ≡ length (entries_in graph self.now) }

@@ -1,18 +1,18 @@
-//! What a field of a record says.
+//! Reads the fields of a record.
 
 ghost use Rattle.std.specs.Prelude.{◌≡◌, ◌<◌, ◌≤◌, ◌^◌, IfSome, length, true};
 ghost use Rattle.std.specs.{Char.is_ascii_digit, List.list_all, Str.Parse.digits_value};
 ghost use Rattle.nr_streams.specs.Fields.{from_first_mark, is_blank, numeral, short_number, text_of_field, to_last_mark};
 
-/// A field without the spaces and tabs at both its ends.
+/// Returns a field without the spaces and tabs at its ends.
 pub fn stripped(field: &[u8]) -> &[u8]
     ensures { result.now ≡ text_of_field field.now }
 {
     to_last_mark(from_first_mark(field))
 }
 
-/// The number that 1 to `most` decimal digits write, leading zeros included; any other text
-/// has none. Twenty digits may write a number of more than 64 bits.
+/// Returns the number that a text of 1 to `most` decimal digits writes, leading zeros included, or `None` for any other
+/// text. The result is wide because twenty digits can write a number of more than 64 bits.
 #[tactic(auto, unfolding(crate::specs::Fields::numeral))]
 pub fn numeral(most: usize, text: &[u8]) -> Option<u128>
     requires { most ≤ 20 }
@@ -26,7 +26,7 @@ pub fn numeral(most: usize, text: &[u8]) -> Option<u128>
     }
 }
 
-/// The number that 1 to 10 decimal digits write; of any other text there is none.
+/// Returns the number that a text of 1 to 10 decimal digits writes, or `None` for any other text.
 pub fn short_number(text: &[u8]) -> Option<u64>
     ensures { result ≡ short_number text.now }
 {

@@ -1,9 +1,10 @@
-//! Where octets come from and where a text goes: `Source` and `Sink`, each with one over memory. `read_to_end` gives
-//! all octets of a Source up to a limit, and `put_all` writes a whole text. A failure is counted, and each call's
-//! result tells of it (specs/Source.antt, specs/Sink.antt).
+//! Input and output as traits, so that contracts can speak about them: a `Source` gives octets, a `Sink` takes them,
+//! and each has an implementation over memory. `read_to_end` reads a Source up to a limit, and `put_all` writes a whole
+//! text. Failures are counted, and the result of each call tells whether the count rose (specs/Source.antt,
+//! specs/Sink.antt).
 //!
-//! Texts of comma-separated fields are read by `Records`, and a field by `stripped` and `numeral`. No clause of TS
-//! 38.212 is about it.
+//! `Records` reads texts of comma-separated fields, and `stripped` and `numeral` read a field. No clause of TS 38.212
+//! is about this crate.
 #![tactic(auto)]
 
 mod fields;

@@ -1,4 +1,4 @@
-//! The records of a text of comma-separated fields. This module uses the crate `csv`.
+//! The records of a text of comma-separated fields, read with the crate `csv`.
 
 ghost use Rattle.std.specs.Prelude.{◌≡◌, [], ◌∷◌, ◌≤◌, if◌then◌else◌, true, false, length, MatchBool, IfOk};
 ghost use Rattle.std.specs.Prelude.{OnErr};
@@ -9,8 +9,8 @@ use csv::{ByteRecord, Reader, ReaderBuilder};
 use std::alloc::{AllocError, Global};
 use std::marker::Model;
 
-/// The records of a text, one after another: as `csv` reads them, with no header, nothing trimmed,
-/// and records of any length.
+/// The records of a text, one after another, as `csv` reads them without a header, without trimming, and with records
+/// of any number of fields.
 #[derive(Drop)]
 pub struct Records<'a> {
     reader: Reader<&'a [u8]>,
@@ -30,7 +30,7 @@ impl<'a> Model for Records<'a> {
 }
 
 impl<'a> Records<'a> {
-    /// All records of the text.
+    /// Returns a reader for all records of the text.
     pub fn new(alloc: Global, text: &'a [u8]) -> Records<'a>
         ensures records { result ≡ records_of text.now }
         ensures few { length result ≤ length text.now }
@@ -45,11 +45,11 @@ impl<'a> Records<'a> {
         }
     }
 
-    /// Fills `row` with the next record and returns true, or returns false if there is none.
+    /// Reads the next record into `row` and returns true, or returns false if there are no more.
     ///
     /// # Errors
     ///
-    /// `AllocError`, if memory runs out, and then no record is left.
+    /// `AllocError` if memory runs out. No further record can be read then.
     pub fn next(&mut self, row: &mut ByteRecord) -> Result<bool, AllocError>
         ensures next { IfOk result (λ found. TakesRow self.old self.new found (fields_of row.new)) }
         ensures err { OnErr result (self.new ≡ []) }

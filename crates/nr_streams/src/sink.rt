@@ -1,4 +1,4 @@
-//! Where a text goes, and a Sink over memory for tests.
+//! Where a text is written to, and a Sink over memory for tests.
 
 ghost use Rattle.std.specs.Prelude.{◌≡◌, ℕ, ◌+◌, ◌^◌, ◌<◌, ◌≤◌, List, Option, Some, length, take, is_err};
 ghost use Rattle.std.specs.Prelude.{IfOk, OnOk, OnErr, vec_capacity, vec_len};
@@ -10,19 +10,20 @@ use crate::source::Broken;
 use std::alloc::{AllocError, Global};
 use std::marker::Model;
 
-/// Where a text goes: a file, standard output or memory.
+/// Something that takes octets: a file, standard output or memory.
 ///
-/// Contracts see the octets written so far, if they are known, and the count of failures, which is
-/// below 2^32 at every call.
+/// Contracts see the octets written so far, if they are known, and the number of failures, which is below 2^32 at every
+/// call.
 pub trait Sink {
     ghost written: { Self → Option (List ℕ) };
 
     ghost failures: { Self → ℕ };
 
-    /// Writes the first octets of `buf` and returns how many: at least one if `buf` is not empty.
+    /// Writes the first octets of `buf` and returns how many: at least one, unless `buf` is empty.
     ///
     /// # Errors
-    /// `Broken` exactly if the count of failures rises. Then nothing was written.
+    ///
+    /// `Broken` exactly if the number of failures rises. Nothing was written then.
     fn put(&mut self, buf: &[u8]) -> Result<usize, Broken>
         requires { failures self.old < 2 ^ 32 }
         ensures count { IfOk result (λ n. n ≤ length buf.now) }
@@ -33,10 +34,11 @@ pub trait Sink {
         ensures failed { FailsAs broken result (failures self.old) (failures self.new) };
 }
 
-/// Writes all of `text`, put after put.
+/// Writes all of `text`, with as many calls of `put` as it takes.
 ///
 /// # Errors
-/// `Broken` if a put is Broken. Then some first octets of `text` are written, and the rest is not.
+///
+/// `Broken` if a put fails. The sink then has some first part of `text`, and the rest is lost.
 pub fn put_all<S: Sink>(sink: &mut S, text: &[u8]) -> Result<(), Broken>
     requires { S.failures sink.old < 2 ^ 32 }
     ensures all { OnOk result (S.written sink.new ≡ with_text (S.written sink.old) text.now) }
@@ -50,7 +52,7 @@ pub fn put_all<S: Sink>(sink: &mut S, text: &[u8]) -> Result<(), Broken>
     Ok(())
 }
 
-/// A Sink over memory with a limited room, which can be made to fail.
+/// A Sink over memory with limited room, which can be made to fail.
 #[derive(Drop)]
 pub struct Tape {
     octets: Vec<u8>,
@@ -75,10 +77,12 @@ impl Model for Tape {
 }
 
 impl Tape {
-    /// A blank tape. It has room for `room` octets, all of it taken here, and takes at most `step` octets per put. It
-    /// is Broken from its `fail`-th put on (0: at no put), and when its room is used up.
+    /// Returns an empty tape. It has room for `room` octets, which are allocated here, and takes at most `step` octets
+    /// for each put. From its put number `fail` on it returns `Broken` (never, if `fail` is 0), and also when its room
+    /// is used up.
     ///
     /// # Errors
+    ///
     /// `AllocError` if there is no memory for the room.
     pub fn new(alloc: Global, room: u32, step: u32, fail: u32) -> Result<Tape, AllocError>
         requires { 0 < step }
@@ -93,7 +97,7 @@ impl Tape {
         })
     }
 
-    /// The octets written so far.
+    /// Returns the octets written so far.
     pub fn bytes(&self) -> &[u8]
         ensures { result.now ≡ self.now.octets }
     {

@@ -13,11 +13,11 @@ use std::marker::Model;
 // How many octets are asked for at once.
 const PIECE: usize = 65_536;
 
-/// The result of a pull that failed.
+/// The error of a pull or a put that failed.
 #[derive(Clone, Copy, Debug, PartialEq, Eq)]
 pub struct Broken;
 
-/// Where octets come from, piece by piece.
+/// Something that gives octets, piece by piece.
 pub trait Source {
     /// The octets still to come, if they are known. Those of a file or of standard input are not.
     ghost remaining: { Self → Option (List ℕ) };
@@ -25,12 +25,12 @@ pub trait Source {
     /// How many pulls have failed.
     ghost failures: { Self → ℕ };
 
-    /// Puts the next octets at the front of `buf` and returns how many they are. The result for a
-    /// buffer that is not empty is 0 only at the end of the octets.
+    /// Reads the next octets into the front of `buf` and returns how many they are. If `buf` is not empty, 0 means that
+    /// the octets have ended.
     ///
     /// # Errors
     ///
-    /// `Broken`, if the source failed, and then no octet is taken.
+    /// `Broken` if the source failed. No octet was taken then.
     fn pull(&mut self, buf: &mut [u8]) -> Result<usize, Broken>
         requires { failures self.old < 2 ^ 32 }
         ensures within { IfOk result (λ n. n ≤ length buf.new) }
@@ -38,14 +38,14 @@ pub trait Source {
         ensures broken { FailsAs broken result (failures self.old) (failures self.new) };
 }
 
-/// Why a source is not read to its end.
+/// Why a source was not read to its end.
 #[derive(Clone, Copy, Debug, PartialEq, Eq)]
 pub enum ReadFault {
     /// The source failed.
     Broken,
     /// The source has more octets than allowed.
     TooLong,
-    /// A growth was refused.
+    /// Memory ran out.
     Memory,
 }
 
@@ -60,13 +60,15 @@ impl From<AllocError> for ReadFault {
     }
 }
 
-/// Reads a source to its end, and returns its octets, at most `limit` of them.
+/// Reads a source to its end and returns its octets, at most `limit` of them.
 ///
 /// # Errors
 ///
-/// As they are met: `Broken`, if a pull failed, and then the source is pulled no more.
-/// `TooLong`, if more than `limit` octets came. That is met even with a source that never
-/// ends, since each turn but the last gives at least one octet. `Memory`.
+/// Whichever is met first:
+///
+/// - `Broken` if a pull failed; the source is not pulled again
+/// - `TooLong` if more than `limit` octets came, which also ends reading a source that never ends
+/// - `Memory` if memory runs out
 pub fn read_to_end<S: Source>(
     alloc: Global,
     source: &mut S,
@@ -133,8 +135,8 @@ impl Model for Feed {
 }
 
 impl Feed {
-    /// A source that gives these octets, at most `step` a pull, and fails from its `fail`-th pull
-    /// on, or never if `fail` is 0. `step` is not 0.
+    /// Returns a source that gives these octets, at most `step` for each pull, where `step` is not 0. From its pull
+    /// number `fail` on it fails, or never if `fail` is 0.
     pub fn new(octets: Vec<u8>, step: u32, fail: u32) -> Feed
         requires { 0 < step }
         ensures octets { ⟦<Feed as Source>⟧.remaining result ≡ Some octets.items }
@@ -181,7 +183,7 @@ impl Source for Feed {
     }
 }
 
-/// A source that gives one octet a pull, without end. What the octets are is not known.
+/// A source that gives one octet for each pull and never ends. The octets are unspecified.
 #[derive(Debug, Drop)]
 pub struct Endless {
     pulls: u32,
@@ -196,7 +198,7 @@ impl Model for Endless {
 }
 
 impl Endless {
-    /// A source that was not pulled yet.
+    /// Returns a source that has not been pulled yet.
     pub fn new() -> Endless
         ensures pulls { result.pulls ≡ 0 }
         ensures failures { ⟦<Endless as Source>⟧.failures result ≡ 0 }
@@ -204,7 +206,7 @@ impl Endless {
         Endless { pulls: 0 }
     }
 
-    /// How many pulls there were. The count stays at 2^32 - 1.
+    /// Returns how many pulls there were. The count stops at 2^32 - 1.
     pub fn pulls(&self) -> u32
         ensures { result ≡ self.now.pulls }
     {

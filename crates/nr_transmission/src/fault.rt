@@ -1,4 +1,4 @@
-//! Why the ends of a link refuse.
+//! The errors of the ends of a link.
 
 use nr_graphpick::PickFault;
 use nr_ratematch::RmFault;
@@ -6,16 +6,16 @@ use nr_segment::SegFault;
 use std::alloc::AllocError;
 use thiserror::Error;
 
-/// Why a transport block or a transmission is refused. It is printed as the innermost fault's name.
+/// Why a transport block or a transmission is rejected. It prints as the name of the innermost error.
 #[derive(Clone, Copy, Debug, PartialEq, Eq, Error)]
 pub enum DeskFault {
     /// The transport block does not have 8 to 1,310,720 bits in whole octets.
     #[error("Size")]
     Size,
-    /// No base graph is picked.
+    /// No base graph can be chosen.
     #[error("{0}")]
     Pick(PickFault),
-    /// There is no plan.
+    /// The transport block cannot be segmented.
     #[error("{0}")]
     Seg(SegFault),
     /// The shift table lacks the base graph.
@@ -24,13 +24,13 @@ pub enum DeskFault {
     /// The redundancy version is above 3.
     #[error("Rv")]
     Rv,
-    /// There is no buffer, or the bits can't be shared out.
+    /// There is no circular buffer, or the bits cannot be shared out.
     #[error("{0}")]
     Rm(RmFault),
-    /// Not as many places were received as the transmission has.
+    /// There are more or fewer received values, erased ones included, than the transmission has bits.
     #[error("Length")]
     Length,
-    /// A growth was refused.
+    /// Memory ran out.
     #[error("Memory")]
     Memory,
 }

@@ -1,8 +1,8 @@
-//! What both ends of a link agree on (3GPP TS 38.212, 5.4.2). They are plain types: their values promise nothing, and
-//! each end says in its own contract what it accepts.
+//! What both ends of a link have to agree on (3GPP TS 38.212, 5.4.2). These are plain types whose values promise
+//! nothing, so each end says in its own contract what it accepts.
 //!
-//! `Settings` is the code rate and the limit of the buffer, and `Tx` how a transport block is sent once. `DeskFault` is
-//! why an end refuses a block or a transmission.
+//! `Settings` is the code rate and the limit of the circular buffer, `Tx` is one transmission of a transport block, and
+//! `DeskFault` is why an end rejects a block or a transmission.
 #![tactic(auto)]
 
 mod fault;

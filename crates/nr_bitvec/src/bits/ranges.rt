@@ -1,4 +1,4 @@
-//! Ranges of a list, at the end of another or as a list of their own.
+//! Copies a range of a list, to the end of another list or into a list of its own.
 
 ghost use Rattle.std.specs.Prelude.{◌≡◌, ◌+◌, ◌*◌, ◌%◌, ◌<◌, ◌≤◌, ◌++◌, length, take, drop, IfOk};
 
@@ -7,11 +7,12 @@ use crate::words::push_windows;
 use std::alloc::AllocError;
 
 impl Bits {
-    /// The `len` bits from bit `from` on, which the list has.
+    /// Returns a new list with the `len` bits that begin at bit `from`. The caller guarantees that `from + len` is at
+    /// most the length.
     ///
     /// # Errors
     ///
-    /// `AllocError`, if memory runs out.
+    /// `AllocError` if memory runs out.
     pub fn copy_range(&self, from: usize, len: usize) -> Result<Bits, AllocError>
         requires { from + len ≤ length self.now.items }
         ensures { IfOk result (λ b. b.items ≡ take len (drop from self.now.items)) }
@@ -23,8 +24,8 @@ impl Bits {
         Ok(copy)
     }
 
-    /// Puts the `count` bits of `from` from its bit `at` on, which it has, at the end of a list that
-    /// has room for them. Takes no memory.
+    /// Appends the `count` bits of `from` that begin at its bit `at`. The caller guarantees that `from` has these bits
+    /// and that this list has room for them, so nothing is allocated.
     pub fn extend_range(&mut self, from: &Bits, at: usize, count: usize)
         requires inside { at + count ≤ length from.now.items }
         requires room { count ≤ self.old.room }

@@ -1,5 +1,5 @@
-//! The remainders by CRC24B's generator of octets that have whole octets of zeros after them,
-//! all in the other order.
+//! The remainders by gCRC24B of octets that are followed by whole octets of zeros, with the bits of each reversed: the
+//! first parity bit is the lowest.
 
 // Table k has for each octet, its lowest bit first, the remainder of its polynomial times D^(L + 8 k). The lowest bit of
 // a remainder is the first parity bit.

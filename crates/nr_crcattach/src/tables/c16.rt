@@ -1,5 +1,5 @@
-//! The remainders by CRC16's generator of octets that have whole octets of zeros after them,
-//! all in the other order.
+//! The remainders by gCRC16 of octets that are followed by whole octets of zeros, with the bits of each reversed: the
+//! first parity bit is the lowest.
 
 // Table k has for each octet, its lowest bit first, the remainder of its polynomial times D^(L + 8 k). The lowest bit of
 // a remainder is the first parity bit.

@@ -1,4 +1,5 @@
-//! Counts kept as bit planes, so that 64 of them fall at a time. Word b of a group has bit b of each of its 64 counts.
+//! Counts stored as bit planes, so that 64 of them can be lowered at a time. In a group of words, word b has bit b of
+//! each of 64 counts.
 
 ghost use Rattle.std.specs.Prelude.{◌≡◌, ℕ, ◌+◌, ◌*◌, ◌^◌, ◌<◌, ◌≤◌, ◌==◌, ◌&&◌};
 ghost use Rattle.std.specs.Prelude.{if◌then◌else◌, length, slice_index, EachIndex, IfOk};
@@ -51,8 +52,8 @@ impl<const P: usize, const W: usize> CountBlock<P, W> {
     }
 }
 
-/// Blocks of counts below 2^P, of one size. Each is kept in `P` planes, at most seven, of `W` words: bit t of plane b is bit b
-/// of count t. What is subtracted from all counts of a block is kept beside them.
+/// Blocks of counts below 2^P, all of one size. A block takes `P` planes, at most seven, of `W` words each: bit t of
+/// plane b is bit b of count t. What has been subtracted from a whole block is stored beside its planes.
 #[derive(Drop)]
 pub struct BitSlicedCounts<const P: usize, const W: usize> {
     size: usize,
@@ -72,7 +73,7 @@ impl<const P: usize, const W: usize> Model for BitSlicedCounts<P, W> {
 }
 
 impl<const P: usize, const W: usize> BitSlicedCounts<P, W> {
-    /// A block of `size` counts for each of `counts`, which all of them are.
+    /// Returns a block of `size` counts for each number in `counts`, all of them equal to that number.
     ///
     /// # Errors
     ///
@@ -101,7 +102,7 @@ impl<const P: usize, const W: usize> BitSlicedCounts<P, W> {
         Ok(BitSlicedCounts { size, mask, blocks })
     }
 
-    /// Takes the counts of other blocks, which are as many and of the same size. Takes no memory.
+    /// Copies the counts of `from`, which has the same number of blocks of the same size. Allocates nothing.
     pub fn copy_from(&mut self, from: &BitSlicedCounts<P, W>)
         requires lanes { self.old.lanes ≡ from.now.lanes }
         requires long { length self.old.items ≡ length from.now.items }
@@ -110,7 +111,7 @@ impl<const P: usize, const W: usize> BitSlicedCounts<P, W> {
         self.blocks.copy_from_slice(&from.blocks);
     }
 
-    /// Marks those counts of block `i` that are exactly one.
+    /// Returns a lane with a bit set for each count of block `i` that is exactly one.
     pub fn ones(&self, i: usize) -> [u64; W]
         requires block { (i + 1) * self.now.lanes ≤ length self.now.items }
         ensures ones { (t : ℕ) → t < self.now.lanes → is_set result t
@@ -120,7 +121,8 @@ impl<const P: usize, const W: usize> BitSlicedCounts<P, W> {
         self.blocks[i].ones(&self.mask)
     }
 
-    /// Takes one off those counts of block `i` that a lane marks. None of them is 0.
+    /// Subtracts one from each count of block `i` whose bit is set in `lane`. The caller guarantees that none of these
+    /// is 0.
     pub fn lower(&mut self, i: usize, lane: &[u64; W])
         requires block { (i + 1) * self.old.lanes ≤ length self.old.items }
         requires enough { (t : ℕ) → t < self.old.lanes
@@ -135,7 +137,7 @@ impl<const P: usize, const W: usize> BitSlicedCounts<P, W> {
         lower_words(&mut self.blocks[i].planes, lane, self.size);
     }
 
-    /// Takes one off every count of block `i`, none of which is 0.
+    /// Subtracts one from every count of block `i`. The caller guarantees that none of them is 0.
     pub fn lower_each(&mut self, i: usize)
         requires block { (i + 1) * self.old.lanes ≤ length self.old.items }
         requires enough { (t : ℕ) → t < self.old.lanes

@@ -1,4 +1,4 @@
-//! Blocks of bits that are kept as doubled lanes. A word of any rotation is read in one piece.
+//! Blocks of bits stored as doubled lanes, so that a word of any rotation is read in one piece.
 
 ghost use Rattle.std.specs.Prelude.{◌≡◌, ℕ, ◌+◌, ◌-◌, ◌*◌, ◌/◌, ◌%◌, ◌^◌, ◌<◌, ◌≤◌};
 ghost use Rattle.std.specs.Prelude.{◌==◌, ◌&&◌, ◌||◌, min, not, false, length, replicate, IfOk};
@@ -165,8 +165,8 @@ fn read_doubled<const W: usize, const D: usize>(
     lane
 }
 
-/// Blocks of bits of one size, from which lanes of any rotation are read. A lane takes `W` words. Each block is kept as a
-/// doubled lane of `D`, twice as many.
+/// Blocks of bits of one size, from which lanes of any rotation are read. A lane takes `W` words, and a block is stored
+/// as a doubled lane of `D` words, twice as many.
 #[derive(Drop)]
 pub struct DoubledLanes<const W: usize, const D: usize> {
     size: usize,
@@ -186,7 +186,7 @@ impl<const W: usize, const D: usize> Model for DoubledLanes<W, D> {
 }
 
 impl<const W: usize, const D: usize> DoubledLanes<W, D> {
-    /// `count` blocks of `size` zeros.
+    /// Returns `count` blocks of `size` zeros.
     ///
     /// # Errors
     ///
@@ -205,7 +205,7 @@ impl<const W: usize, const D: usize> DoubledLanes<W, D> {
         Ok(DoubledLanes { size, mask, blocks })
     }
 
-    /// Takes the bits of other blocks, which are as many and of the same size. Takes no memory.
+    /// Copies the bits of `from`, which has the same number of blocks of the same size. Allocates nothing.
     pub fn copy_from(&mut self, from: &DoubledLanes<W, D>)
         requires lanes { self.old.lanes ≡ from.now.lanes }
         requires long { length self.old.items ≡ length from.now.items }
@@ -214,7 +214,7 @@ impl<const W: usize, const D: usize> DoubledLanes<W, D> {
         self.blocks.copy_from_slice(&from.blocks);
     }
 
-    /// One bit of all.
+    /// Returns bit `p`, counted through all blocks.
     pub fn get(&self, p: usize) -> bool
         requires { p < length self.now.items }
         ensures { result ≡ bit self.now.items p }
@@ -223,7 +223,8 @@ impl<const W: usize, const D: usize> DoubledLanes<W, D> {
         window(&self.blocks[p / self.size], t / 64, t % 64) & 1 == 1
     }
 
-    /// The bits from bit `p` of all on, the first of them lowest, and how many they are: 1 to 64.
+    /// Returns the bits from bit `p` on, counted through all blocks, the first of them lowest, and how many they are: 1
+    /// to 64.
     pub fn word_from(&self, p: usize) -> (u64, usize)
         requires { p < length self.now.items }
         ensures bits { (j : ℕ) → j < result.1
@@ -237,7 +238,8 @@ impl<const W: usize, const D: usize> DoubledLanes<W, D> {
         (word, (self.size - t).min(64))
     }
 
-    /// Block `j`, rotated by `rotation`: its bit t is bit (t + `rotation`) modulo the size of the block's.
+    /// Returns block `j` rotated by `rotation`: bit t of the lane is bit (t + `rotation`) of the block, modulo its
+    /// size.
     pub fn lane(&self, j: usize, rotation: usize) -> [u64; W]
         requires block { (j + 1) * self.now.lanes ≤ length self.now.items }
         requires rotation { rotation < self.now.lanes }
@@ -248,8 +250,8 @@ impl<const W: usize, const D: usize> DoubledLanes<W, D> {
         lane_of(&self.blocks[j], self.size, rotation, &self.mask)
     }
 
-    /// Adds block `j`, rotated by `rotation`, to a lane, modulo two: its bit t gains bit (t + `rotation`) modulo the size of the
-    /// block's.
+    /// Adds block `j`, rotated by `rotation`, to a lane, modulo two: bit t of the lane gains bit (t + `rotation`) of
+    /// the block, modulo its size.
     pub fn add_rotated(&self, j: usize, rotation: usize, sum: &mut [u64; W])
         requires block { (j + 1) * self.now.lanes ≤ length self.now.items }
         requires rotation { rotation < self.now.lanes }
@@ -261,8 +263,7 @@ impl<const W: usize, const D: usize> DoubledLanes<W, D> {
         add_doubled(sum, &self.blocks[j], self.size, rotation, &self.mask);
     }
 
-    /// The bits of a lane that block `j`, rotated by `rotation`, lacks. They are those t whose bit (t + `rotation`) modulo the
-    /// size is a zero of the block's.
+    /// Returns those bits t of `lane` for which bit (t + `rotation`) of block `j`, modulo its size, is zero.
     pub fn lacking(&self, j: usize, rotation: usize, lane: &[u64; W]) -> [u64; W]
         requires block { (j + 1) * self.now.lanes ≤ length self.now.items }
         requires rotation { rotation < self.now.lanes }
@@ -274,7 +275,7 @@ impl<const W: usize, const D: usize> DoubledLanes<W, D> {
         less_doubled(lane, &self.blocks[j], self.size, rotation)
     }
 
-    /// Sets the bits of block `j` that are ones in a lane.
+    /// Sets the bits of block `j` that are set in `lane`.
     pub fn union_with(&mut self, j: usize, lane: &[u64; W])
         requires block { (j + 1) * self.old.lanes ≤ length self.old.items }
         requires clear { IsClear lane.now self.old.lanes }
@@ -286,7 +287,7 @@ impl<const W: usize, const D: usize> DoubledLanes<W, D> {
         union_doubled(&mut self.blocks[j], lane, self.size);
     }
 
-    /// Sets the bits of block `j` that are ones in a lane that is rotated by `p`.
+    /// Sets the bits of block `j` that are set in `lane` after it is rotated by `p`.
     pub fn union_rotated(&mut self, j: usize, lane: &[u64; W], p: usize)
         requires block { (j + 1) * self.old.lanes ≤ length self.old.items }
         requires rotation { p < self.old.lanes }
@@ -300,7 +301,7 @@ impl<const W: usize, const D: usize> DoubledLanes<W, D> {
         union_doubled(&mut self.blocks[j], &turned, self.size);
     }
 
-    /// Makes the bits of block `j` zeros.
+    /// Sets every bit of block `j` to zero.
     pub fn clear(&mut self, j: usize)
         requires { (j + 1) * self.old.lanes ≤ length self.old.items }
         ensures cleared { (p : ℕ) → bit self.new.items p

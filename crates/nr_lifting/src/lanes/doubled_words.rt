@@ -1,5 +1,5 @@
-//! Doubled lanes in words. A lane is put into such words or joins them, and 64 places of them are read in one piece. No word of a
-//! rotation needs a branch, since the places past the lane are cut off.
+//! Doubled lanes in words: a lane is stored twice in a row, so that 64 bits of any rotation of it are read in one
+//! piece. No word of a rotation needs a branch, because the bits past the lane are cut off afterwards.
 
 ghost use Rattle.std.specs.Prelude.{◌≡◌, ℕ, ◌+◌, ◌*◌, ◌/◌, ◌%◌, ◌^◌, ◌<◌, ◌≤◌};
 ghost use Rattle.std.specs.Prelude.{length, slice_index_or};
@@ -22,8 +22,8 @@ pub(crate) fn piece(words: &[u64], word: usize, turn: usize) -> u64
     words[word] >> turn | words[word + 1] << 1 << (63 - turn)
 }
 
-/// Adds to the words of a sum, modulo two, the places from place `p` of word `at` on. Of a doubled lane that begins there they
-/// are the lane, rotated by `p`.
+/// Adds to the words of `sum`, modulo two, the bits that begin at bit `p` of word `at`. If a doubled lane begins at
+/// word `at`, these are the lane rotated by `p`.
 pub fn add_window<const W: usize>(sum: &mut [u64; W], words: &[u64], at: usize, p: usize)
     requires { at + p / 64 + W < length words.now }
     ensures { (t : ℕ) → t < 64 * W

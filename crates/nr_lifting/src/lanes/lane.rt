@@ -1,4 +1,4 @@
-//! Lanes of as many bits as a lifting size, kept as words of 64.
+//! Lanes with as many bits as a lifting size, stored in 64-bit words.
 
 ghost use Rattle.std.specs.Prelude.{◌≡◌, ℕ, ◌+◌, ◌*◌, ◌%◌, ◌<◌, ◌≤◌, false, length, replicate};
 ghost use Rattle.std.specs.Int.{bit_at};
@@ -14,8 +14,8 @@ use nr_bitvec::Bits;
 use nr_bitvec::words::{low_bits, window};
 use std::marker::Model;
 
-/// A lane of `Z` bits, which keeps 64 of them in a word. It is a row block of the code at lifting size `Z`, or a column
-/// of one. `W` is the number of words, the least that holds `Z` bits.
+/// A lane of `Z` bits: one block of Zc positions of the codeword, or one block of Zc check rows, at lifting size `Z`.
+/// `W` is the least number of 64-bit words that hold `Z` bits.
 #[derive(Drop)]
 pub struct Lane<const Z: usize, const W: usize> {
     words: [u64; W],
@@ -34,7 +34,7 @@ impl<const Z: usize, const W: usize> Model for Lane<Z, W> {
 }
 
 impl<const Z: usize, const W: usize> Lane<Z, W> {
-    /// The lane of zeros.
+    /// Returns a lane of zeros.
     pub fn zero() -> Self
         requires above { 64 * W < Z + 64 }
         requires below { Z ≤ 64 * W }
@@ -43,7 +43,7 @@ impl<const Z: usize, const W: usize> Lane<Z, W> {
         Lane { words: [0; W] }
     }
 
-    /// The `Z` bits of `src` from bit `from` on, which it has.
+    /// Returns the `Z` bits of `src` that begin at bit `from`. The caller guarantees that `src` has them.
     pub fn load(src: &Bits, from: usize) -> Self
         requires above { 64 * W < Z + 64 }
         requires below { Z ≤ 64 * W }
@@ -60,7 +60,7 @@ impl<const Z: usize, const W: usize> Lane<Z, W> {
         Lane { words }
     }
 
-    /// The first `Z` places of words, the last of which can have more set.
+    /// Returns the first `Z` bits of `words`, whose last word may have more bits set.
     pub fn clipped(words: &[u64; W]) -> Self
         requires above { 64 * W < Z + 64 }
         requires below { Z ≤ 64 * W }
@@ -73,7 +73,7 @@ impl<const Z: usize, const W: usize> Lane<Z, W> {
         Lane { words: lane }
     }
 
-    /// The lane's words, of which no place past the lane is set.
+    /// Returns the words of the lane, in which no bit past the lane is set.
     pub fn words(&self) -> &[u64; W]
         ensures bits { (t : ℕ) → is_set result.now t ≡ bit self.now t }
         ensures clear { IsClear result.now Z }
@@ -81,7 +81,8 @@ impl<const Z: usize, const W: usize> Lane<Z, W> {
         &self.words
     }
 
-    /// Puts the lane in the places of `dst` from bit `at` on, and leaves every other bit unchanged. Takes no memory.
+    /// Writes the lane over the bits of `dst` that begin at bit `at`, and leaves every other bit unchanged. Allocates
+    /// nothing.
     pub fn store(&self, dst: &mut Bits, at: usize)
         requires { at + Z ≤ length dst.old.items }
         ensures within { (t : ℕ) → t < Z → bit dst.new.items (at + t) ≡ bit self.now t }
@@ -98,8 +99,8 @@ impl<const Z: usize, const W: usize> Lane<Z, W> {
         }
     }
 
-    /// Puts the lane doubled, twice in a row, from word `at` on, and zeros after it as far as word `at + 2 * W`. Each rotation of
-    /// it is then in one piece, for `add_window`.
+    /// Writes the lane twice in a row from word `at` on, with zeros after it as far as word `at + 2 * W`. Each rotation
+    /// of the lane then stands in one piece, for `add_window`.
     pub fn put_doubled(&self, words: &mut [u64], at: usize)
         requires some { 0 < Z }
         requires most { W ≤ 6 }
@@ -110,7 +111,7 @@ impl<const Z: usize, const W: usize> Lane<Z, W> {
         put_twice::<Z, W>(words, at, &self.words);
     }
 
-    /// The lane rotated by `p`: its bit t is bit (t + p) mod Z.
+    /// Returns the lane rotated by `p`: its bit t is bit (t + p) mod Z.
     pub fn rotated(&self, p: usize) -> Self
         requires { p < Z }
         ensures bits { (t : ℕ) → t < Z → bit result t ≡ bit self.now ((t + p) % Z) }
@@ -123,7 +124,7 @@ impl<const Z: usize, const W: usize> Lane<Z, W> {
         Lane { words: rotated }
     }
 
-    /// Adds `src` to the lane, modulo two, rotated by `p`: bit t gains bit (t + p) mod Z of `src`.
+    /// Adds `src`, rotated by `p`, to the lane, modulo two: bit t gains bit (t + p) mod Z of `src`.
     pub fn add_shifted(&mut self, src: &Self, p: usize)
         requires { p < Z }
         ensures sum { AddsRotated Z self.new self.old src.now p }
@@ -132,8 +133,8 @@ impl<const Z: usize, const W: usize> Lane<Z, W> {
         add_lane(&mut self.words, src.rotated(p).words());
     }
 
-    /// Tallies `src`, rotated by `p`, saturating at two. Let u be the bit (t + p) mod Z of `src`. Bit t of `more` is set
-    /// if bit t of `ones` and u are, and then bit t of `ones` if u is.
+    /// Counts the bits of `src`, rotated by `p`, up to two. For each t, let u be bit (t + p) mod Z of `src`: if u is
+    /// set, bit t of `ones` becomes set, and bit t of `more` too if `ones` had it already.
     pub fn tally(ones: &mut Self, more: &mut Self, src: &Self, p: usize)
         requires { p < Z }
         ensures ones { JoinsRotated Z ones.new ones.old src.now p }

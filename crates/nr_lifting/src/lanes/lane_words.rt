@@ -5,7 +5,7 @@ ghost use Rattle.nr_bitvec.specs.Bit.{◌⊕◌};
 ghost use Rattle.nr_bitvec.specs.Packed.{IsClear};
 ghost use Rattle.nr_lifting.specs.DoubledLanes.{is_set, marked_count};
 
-/// Adds a lane to another, modulo two.
+/// Adds `lane` to `sum`, modulo two.
 pub fn add_lane<const W: usize>(sum: &mut [u64; W], lane: &[u64; W])
     ensures bits { (t : ℕ) → is_set sum.new t ≡ is_set sum.old t ⊕ is_set lane.now t }
     ensures clear { (n : ℕ) → IsClear sum.old n → IsClear lane.now n → IsClear sum.new n }
@@ -15,7 +15,7 @@ pub fn add_lane<const W: usize>(sum: &mut [u64; W], lane: &[u64; W])
     }
 }
 
-/// The bits that both lanes have.
+/// Returns the bits that are set in both lanes.
 pub fn common<const W: usize>(lane: &[u64; W], other: &[u64; W]) -> [u64; W]
     ensures bits { (t : ℕ) → is_set result t ≡ (is_set lane.now t && is_set other.now t) }
     ensures clear { (n : ℕ) → IsClear lane.now n → IsClear result n }
@@ -27,7 +27,7 @@ pub fn common<const W: usize>(lane: &[u64; W], other: &[u64; W]) -> [u64; W]
     both
 }
 
-/// The bits of a lane that another lacks.
+/// Returns the bits that are set in `lane` but not in `other`.
 pub fn without<const W: usize>(lane: &[u64; W], other: &[u64; W]) -> [u64; W]
     ensures bits { (t : ℕ) → is_set result t ≡ (is_set lane.now t && not (is_set other.now t)) }
     ensures clear { (n : ℕ) → IsClear lane.now n → IsClear result n }
@@ -39,7 +39,7 @@ pub fn without<const W: usize>(lane: &[u64; W], other: &[u64; W]) -> [u64; W]
     rest
 }
 
-/// How many bits a lane has.
+/// Returns how many bits of the lane are set.
 pub fn lane_count<const W: usize>(lane: &[u64; W]) -> u32
     requires { W ≤ 6 }
     ensures marked { (n : ℕ) → IsClear lane.now n → result ≡ marked_count (is_set lane.now) n }
@@ -52,7 +52,7 @@ pub fn lane_count<const W: usize>(lane: &[u64; W]) -> u32
     count
 }
 
-/// Whether a lane has no bit, seen without a count.
+/// Returns whether no bit of the lane is set, without counting them.
 #[tactic(auto, using(std::proofs::lemmas::Bool::cases_eq, std::proofs::lemmas::Nat::le_or_l, std::proofs::lemmas::Nat::le_or_r))]
 pub fn is_blank<const W: usize>(lane: &[u64; W]) -> bool
     ensures { IsTrue result ↔ ((t : ℕ) → is_set lane.now t ≡ false) }

@@ -1,5 +1,5 @@
-//! Counts below 2^P, 64 a word, kept in P planes. Bit t of plane b is bit b of count t, so that a plane's words
-//! fall several at a time.
+//! Counts below 2^P, 64 to a word, stored in P planes. Bit t of plane b is bit b of count t, so that 64 counts are
+//! lowered by a few operations on words.
 
 ghost use Rattle.std.specs.Prelude.{◌≡◌, ℕ, ◌+◌, ◌-◌, ◌*◌, ◌%◌, ◌^◌, ◌<◌, ◌≤◌, ◌==◌};
 ghost use Rattle.std.specs.Prelude.{◌&&◌, min};

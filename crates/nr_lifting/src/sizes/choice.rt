@@ -1,5 +1,6 @@
-//! The choice of a lifting size, once for all operations on blocks of bits. An operation is written generic in the size `Z` and
-//! in the words `W` of 64 bits that hold so many. `at_size` does it at a size that is known only when the program runs.
+//! Chooses the lifting size in one place for all operations on blocks of bits. An operation is written generically in
+//! the size `Z` and in the number `W` of 64-bit words that hold so many bits, and `at_size` runs it at a size that is
+//! known only at run time.
 
 ghost use Rattle.std.specs.Prelude.{◌≡◌, ℕ, ◌+◌, ◌*◌, ◌<◌, ◌≤◌, [], slice_index_or, IsTrue};
 ghost use Rattle.nr_lifting.specs.Blocks.{IsSize};
@@ -7,10 +8,10 @@ ghost use Rattle.nr_lifting.specs.Sizes.{is_in, set_index, size_sets};
 
 use crate::sizes::set_of;
 
-/// What an operation on blocks of bits means at each size. An operation holds what it works on. `ready` says at which sizes it may
-/// be done, and `done` what comes of it: the answer, and the operation after.
+/// What an operation on blocks of bits means at each size. The operation holds the data that it works on; `ready` says
+/// at which sizes it may run, and `done` says what it returns and what it leaves behind.
 pub trait BlockOperation {
-    /// What it answers.
+    /// What the operation returns.
     type Answer;
 
     ghost ready: { Self → ℕ → Type 0 };
@@ -18,9 +19,9 @@ pub trait BlockOperation {
     ghost done: { Self → ℕ → Self.Answer → Self → Type 0 };
 }
 
-/// An operation at the size `Z`, of which `W` words are the least that hold a block.
+/// An operation at the size `Z`, where `W` is the least number of words that hold a block.
 pub trait AtSize<const Z: usize, const W: usize>: BlockOperation {
-    /// Does it.
+    /// Runs the operation.
     fn run(&mut self) -> Self::Answer
         requires above { 64 * W < Z + 64 }
         requires below { Z ≤ 64 * W }
@@ -30,7 +31,7 @@ pub trait AtSize<const Z: usize, const W: usize>: BlockOperation {
         ensures { Self.done self.old Z result self.new };
 }
 
-/// An operation at each of the 51 lifting sizes, a line for each set (TS 38.212, Table 5.3.2-1).
+/// An operation that can run at each of the 51 lifting sizes, one line for each set (TS 38.212, Table 5.3.2-1).
 pub trait AtEachSize: AtSize<2, 1>
     + AtSize<4, 1>
     + AtSize<8, 1>
@@ -83,8 +84,8 @@ pub trait AtEachSize: AtSize<2, 1>
     + AtSize<120, 2>
     + AtSize<240, 4> {}
 
-/// `with_size!(s, z, Trait::method(..))` calls `Trait::<Z, W>::method(..)` if Z is `z`, which is a size of set index `s`. W is
-/// the least number of words that hold Z bits.
+/// `with_size!(s, z, Trait::method(..))` calls `Trait::<Z, W>::method(..)` with Z equal to `z`, which is a size of set
+/// index `s`, and W the least number of words that hold Z bits.
 #[macro_export]
 macro_rules! with_size {
     (0, $z:expr, $name:ident::$method:ident $args:tt) => {
@@ -119,7 +120,7 @@ macro_rules! with_size {
     };
 }
 
-/// Does an operation at the lifting size `z`.
+/// Runs an operation at the lifting size `z` and returns its result.
 pub fn at_size<T: AtEachSize>(z: usize, operation: &mut T) -> T::Answer
     requires size { IsSize z }
     requires ready { T.ready operation.old z }

@@ -10,15 +10,15 @@ pub const SIZES: [u16; 51] = [
     288, 320, 352, 384,
 ];
 
-/// Law: `SIZES` is the ascending list of the lifting sizes, which has each size of the table's eight sets once (TS
+/// Law: `SIZES` lists the lifting sizes in ascending order and has each size of the table's eight sets exactly once (TS
 /// 38.212, Table 5.3.2-1). Each size above 2 is at most twice the next smaller one.
 pub fn size_table()
     ensures listed { SIZES ≡ sizes }
     ensures sound { IsSizeTable }
 {}
 
-/// The set index of the lifting size `z`, 0 to 7, or `None` if `z` is no lifting size (TS 38.212,
-/// Table 5.3.2-1).
+/// Returns the set index of the lifting size `z`, 0 to 7, or `None` if `z` is not a lifting size (TS 38.212, Table
+/// 5.3.2-1).
 #[tactic(auto, unfolding(crate::specs::Sizes::set_index))]
 pub fn set_of(z: u16) -> Option<u8>
     ensures { result ≡ set_index z }
@@ -36,7 +36,7 @@ pub fn set_of(z: u16) -> Option<u8>
     }
 }
 
-/// The least lifting size `z` with `kb * z >= need`, or `None` if there is none (TS 38.212, 5.2.2).
+/// Returns the least lifting size `z` with `kb * z >= need`, or `None` if there is none (TS 38.212, 5.2.2).
 #[tactic(auto, unfolding(crate::specs::Sizes::least_size))]
 pub fn smallest(kb: u32, need: u32) -> Option<u16>
     ensures { result ≡ least_size kb need }
