@@ -223,6 +223,7 @@ impl<'t, K: Recording> Peeler<'t, K> {
         requires { pos < (checks_for self.now).size }
         ensures value { result ≡ known_at self.now pos }
         ensures peeled { IsPeeled self.now }
+        ensures recorded { self.now.recorded ≡ K.recorded }
     {
         self.sweep.known(pos as usize)
     }
@@ -236,6 +237,7 @@ impl<'t, K: Recording> Peeler<'t, K> {
         ensures some { 0 < result.1 }
         ensures few { result.1 ≤ 64 }
         ensures peeled { IsPeeled self.now }
+        ensures recorded { self.now.recorded ≡ K.recorded }
     {
         let (word, count) = self.sweep.bits_from(pos as usize);
         (word, count as u32)
@@ -246,14 +248,15 @@ impl<'t, K: Recording> Peeler<'t, K> {
     pub fn left(&self) -> u32
         ensures value { result ≡ left_of self.now.numbers.kdash self.now.known }
         ensures peeled { IsPeeled self.now }
+        ensures recorded { self.now.recorded ≡ K.recorded }
     {
         self.progress.left
     }
 
-    /// How many visits there were of a row and a position of it. With n the number of pairs of a row and a known position
-    /// of it, they are at most 2 n. If steps are recorded they are at least n. So all calls of a peeler's life together
-    /// make at most twice the lifting size times the entries of the base graph. Operations are counted beside visits. They are at
-    /// most three a visit and one for each row block, and visits are at most Zc times as many (`worked`). The crate's README
+    /// How many visits there were of a row and a position of it. With n the number of pairs of a row and a known position of it,
+    /// they are at most 2 n, and at least n if steps are recorded, as the type says (`recorded`). So all calls of a peeler's life
+    /// together make at most twice the lifting size times the entries of the base graph. Operations are counted beside visits. They
+    /// are at most three a visit and one for each row block, and visits are at most Zc times as many (`worked`). The crate's README
     /// says what one is.
     #[tactic(auto, using(crate::proofs::CountedPairFacts::visits_few, crate::proofs::SweepViewFacts::any_peeled))]
     pub fn touches(&self) -> u64
@@ -261,6 +264,7 @@ impl<'t, K: Recording> Peeler<'t, K> {
         ensures few { result ≤ most_visits self.now }
         ensures worked { IsCounted self.now }
         ensures peeled { IsPeeled self.now }
+        ensures recorded { self.now.recorded ≡ K.recorded }
     {
         self.progress.touches
     }
@@ -269,6 +273,7 @@ impl<'t, K: Recording> Peeler<'t, K> {
     pub fn given(&self) -> &Bits
         ensures value { result.now.items ≡ self.now.given }
         ensures peeled { IsPeeled self.now }
+        ensures recorded { self.now.recorded ≡ K.recorded }
     {
         &self.progress.given
     }

@@ -39,6 +39,14 @@ pub(crate) fn row_sum<const W: usize, const D: usize>(
     sum
 }
 
+// The rows of a row block that have one unknown position each, and the sum of the bits of every row of it. An unknown
+// position takes the sum of its row.
+#[derive(Drop)]
+pub(crate) struct RowsWithOne<const W: usize> {
+    pub(crate) ones: [u64; W],
+    pub(crate) sums: [u64; W],
+}
+
 // The rotation that undoes another, without a division.
 fn turned_back(size: u32, rotation: u32) -> u32
     requires { rotation < size }
@@ -96,8 +104,7 @@ impl<const W: usize, const D: usize> Lanes<W, D> {
         i: usize,
         k: usize,
         entry: &Entry,
-        ones: &[u64; W],
-        sums: &[u64; W],
+        rows: &RowsWithOne<W>,
     )
         requires short { lifted.now.plan.z ≤ 64 * W }
         requires block { i < 46 }
@@ -109,20 +116,20 @@ impl<const W: usize, const D: usize> Lanes<W, D> {
         requires column { entry.now.col < 68 }
         requires same { self.old.known.lanes ≡ lifted.now.plan.z }
         requires same_bits { self.old.bits.lanes ≡ lifted.now.plan.z }
-        requires clear { IsClear ones.now lifted.now.plan.z }
+        requires clear { IsClear rows.now.ones lifted.now.plan.z }
         requires room { HasRoom order.old (length order.old.list.items
             + marked_count (lacks lifted.now.plan.z entry.now.col (value_in lifted.now.plan.set entry.now)
-            ones.now (bit self.old.known.items)) lifted.now.plan.z) }
-        ensures { TakesLane lifted.now i k entry.now ones.now sums.now self.old self.new order.old order.new }
+            rows.now.ones (bit self.old.known.items)) lifted.now.plan.z) }
+        ensures { TakesLane lifted.now i k entry.now rows.now.ones rows.now.sums self.old self.new order.old order.new }
     {
         let size = lifted.plan.z;
-        let lane = self.seen.missing(i, k, ones);
+        let lane = self.seen.missing(i, k, &rows.ones);
         if !is_blank(&lane) {
             let rotation = lifted.rotation(entry);
             let col = usize::from(entry.col);
             order.add_lane(entry, size, rotation, &lane);
             let back = turned_back(size, rotation);
-            let set = common(&lane, sums);
+            let set = common(&lane, &rows.sums);
             self.known.union_rotated(col, &lane, back as usize);
             self.seen.mark_column(col, false);
             self.seen.fix(i, k, col, &lane);
@@ -240,9 +247,10 @@ impl<const W: usize, const D: usize> Lanes<W, D> {
         let row = lifted.row(i);
         let (from, read) = self.first_missing(lifted, i, row, &ones);
         let sums = row_sum(&self.bits, lifted, row);
+        let rows = RowsWithOne { ones, sums };
         counts.count_operations(read + 2 * row.len() as u64 - from as u64);
         for k in from..row.len() {
-            self.fix_lane(lifted, order, i as usize, k, &row[k], &ones, &sums);
+            self.fix_lane(lifted, order, i as usize, k, &row[k], &rows);
         }
         ones
     }

@@ -9,17 +9,17 @@ use Rattle.nr_peel.proofs.bit_parallel.lanes.Lanes.fix_lane.Goals as goal
 
 -- the lane of missing positions
 lane_is : (g : given.Over) (c : After-missing-lane g) → (t : ℕ)
-    → is_set c.missing-lane.result t ≡ missing_at c.args.lifted.now c.args.entry.now c.args.ones.now c.args.self.now t
+    → is_set c.missing-lane.result t ≡ missing_at c.args.lifted.now c.args.entry.now c.args.rows.now.ones c.args.self.now t
 lane_is g c =
     let l = c.args.lifted.now in
-    lacking l.plan.z c.args.entry.now.col (value_in l.plan.set c.args.entry.now) l.plan.sound.size_some c.args.ones.now
+    lacking l.plan.z c.args.entry.now.col (value_in l.plan.set c.args.entry.now) l.plan.sound.size_some c.args.rows.now.ones
     c.missing-lane.result (has_seen c.args.self.now.seen c.args.i c.args.k)
     (bit c.args.self.now.known.items) c.requires.clear c.missing-lane.ensures.bits c.requires.seen
 
 pub add_lane-requires : goal.add_lane-requires
 add_lane-requires g c =
     let rows = marked-same (is_set c.missing-lane.result)
-    (missing_at c.args.lifted.now c.args.entry.now c.args.ones.now c.args.self.now) c.args.lifted.now.plan.z
+    (missing_at c.args.lifted.now c.args.entry.now c.args.rows.now.ones c.args.self.now) c.args.lifted.now.plan.z
     (λ t _. lane_is g (goal.at.add_lane-requires g c).After-missing-lane t) in
     let clear = c.missing-lane.ensures.clear c.args.lifted.now.plan.z c.requires.clear in
     let turn = c.rotation-rotation.ensures in
@@ -49,13 +49,15 @@ union_rotated-requires-then-not-is_blank-2 g c =
 -- the missing positions became known, whatever bits they have
 taken : (g : given.Over) (c : After-fix g) (bits : BlockBits)
     → ((t : ℕ) → is_set c.missing-lane.result t
-    ≡ missing_at c.args.lifted.now c.args.entry.now c.args.ones.now c.args.self.now t)
+    ≡ missing_at c.args.lifted.now c.args.entry.now c.args.rows.now.ones c.args.self.now t)
     → ((p : ℕ) → bit bits.items p
     ≡ (bit c.args.self.now.bits.items p
     || marks_of c.args.lifted.now.plan.z c.args.entry.now.col (value_in c.args.lifted.now.plan.set c.args.entry.now)
-    (λ t. missing_at c.args.lifted.now c.args.entry.now c.args.ones.now c.args.self.now t && is_set c.args.sums.now t) p))
+    (λ t. missing_at c.args.lifted.now c.args.entry.now c.args.rows.now.ones c.args.self.now t
+    && is_set c.args.rows.now.sums t) p))
     → length bits.items ≡ length c.args.self.now.bits.items → bits.lanes ≡ c.args.self.now.bits.lanes
-    → TakesLane {W = g.row.W} {D = g.row.D} c.args.lifted.now c.args.i c.args.k c.args.entry.now c.args.ones.now c.args.sums.now
+    → TakesLane {W = g.row.W} {D = g.row.D} c.args.lifted.now c.args.i c.args.k c.args.entry.now c.args.rows.now.ones
+    c.args.rows.now.sums
     c.args.self.now (record { known = c.union_rotated.new.self; bits = bits; seen = c.fix.new.self }) c.args.order.now
     c.add_lane.new.self
 taken g c bits lane joined long lanes =
@@ -64,7 +66,7 @@ taken g c bits lane joined long lanes =
     let a = c.args.self.now in
     let z = l.plan.z in
     let v = value_in l.plan.set e in
-    let u = missing_at l e c.args.ones.now a in
+    let u = missing_at l e c.args.rows.now.ones a in
     let step = rotated_step z e.row e.col (v % z) in
     let turned = turned_marks z e.col v l.plan.sound.size_some c.missing-lane.result u lane in
     let known =
@@ -95,8 +97,8 @@ returns-then-not-is_blank-2 g c =
     let at = goal.at.returns-then-not-is_blank-2 g c in
     let lane = lane_is g at.After-missing-lane in
     let set = turned_marks l.plan.z e.col (value_in l.plan.set e) l.plan.sound.size_some c.common-set.result
-    (λ t. missing_at l e c.args.ones.now c.args.self.now t && is_set c.args.sums.now t)
-    (λ t. c.common-set.ensures.bits t ∙ ap (λ b. b && is_set c.args.sums.now t) (lane t)) in
+    (λ t. missing_at l e c.args.rows.now.ones c.args.self.now t && is_set c.args.rows.now.sums t)
+    (λ t. c.common-set.ensures.bits t ∙ ap (λ b. b && is_set c.args.rows.now.sums t) (lane t)) in
     let bits =
     simp set at (rw (c.requires.same_bits, c.from-col.ensures, c.turned_back-back.ensures.value, c.rotation-rotation.ensures.value)
     at c.union_rotated-then-not-is_blank-2.ensures.joined) in
@@ -110,11 +112,11 @@ returns-else-not-is_blank-2 g c =
     let e = c.args.entry.now in
     let at = goal.at.returns-else-not-is_blank-2 g c in
     let lane = lane_is g at.After-missing-lane in
-    let none = λ (t : ℕ). ap (λ b. b && is_set c.args.sums.now t) (sym (lane t)) ∙ sym (c.common-set.ensures.bits t)
+    let none = λ (t : ℕ). ap (λ b. b && is_set c.args.rows.now.sums t) (sym (lane t)) ∙ sym (c.common-set.ensures.bits t)
     ∙ c.is_blank-then-not-is_blank.ensures.0 c.if-not-is_blank-2.false t in
     taken g at.After-fix c.args.self.now.bits lane
     (λ p. marks_none l.plan.z e.col (value_in l.plan.set e) l.plan.sound.size_some
-    (λ t. missing_at l e c.args.ones.now c.args.self.now t && is_set c.args.sums.now t) _ p none) refl refl
+    (λ t. missing_at l e c.args.rows.now.ones c.args.self.now t && is_set c.args.rows.now.sums t) _ p none) refl refl
 
 -- no row misses this entry's position, so nothing changes
 pub returns-else-not-is_blank : goal.returns-else-not-is_blank
@@ -123,17 +125,18 @@ returns-else-not-is_blank g c =
     let a = c.args.self.now in
     let lane = lane_is g (goal.at.returns-else-not-is_blank g c).After-missing-lane in
     let none = λ (t : ℕ). sym (lane t) ∙ c.is_blank.ensures.0 c.if-not-is_blank.false t in
-    let seen = taken_none l.plan.z c.args.i c.args.k (missing_at l c.args.entry.now c.args.ones.now a) a.known.items a.seen none in
+    let seen =
+    taken_none l.plan.z c.args.i c.args.k (missing_at l c.args.entry.now c.args.rows.now.ones a) a.known.items a.seen none in
     let e = c.args.entry.now in
     let adds = adds_nothing (rotated_step l.plan.z e.row e.col (value_in l.plan.set e % l.plan.z))
-    (missing_at l e c.args.ones.now a) l.plan.z c.args.order.now none in
+    (missing_at l e c.args.rows.now.ones a) l.plan.z c.args.order.now none in
     let v = value_in l.plan.set e in
-    let u = missing_at l e c.args.ones.now a in
-    let unset = λ (t : ℕ). ap (λ b. b && is_set c.args.sums.now t) (none t) in
+    let u = missing_at l e c.args.rows.now.ones a in
+    let unset = λ (t : ℕ). ap (λ b. b && is_set c.args.rows.now.sums t) (none t) in
     record {
       known = λ p. marks_none l.plan.z e.col v l.plan.sound.size_some u _ p none;
       seen = seen;
-      bits = λ p. marks_none l.plan.z e.col v l.plan.sound.size_some (λ t. u t && is_set c.args.sums.now t) _ p unset;
+      bits = λ p. marks_none l.plan.z e.col v l.plan.sound.size_some (λ t. u t && is_set c.args.rows.now.sums t) _ p unset;
       adds = adds;
       known_long = refl;
       bits_long = refl;
