@@ -3,6 +3,7 @@ pub mod LinkFacts
 mod WordFacts
 mod SenderFacts
 pub mod RangeTestFacts
+mod ReceivedFacts
 mod RecordFacts
 mod KeptFacts
 mod ClosureDecisionFacts

@@ -1,17 +1,19 @@
 -- Exactly when each outcome is the one of a list of receptions, and how it settles.
-use Rattle.nr_blockdesk.proofs.Common.{nat_tests, true≢false, first_heard, record_of-at, heard_record, contradiction, is_fixed_at}
+use Rattle.nr_blockdesk.proofs.Common.{nat_tests, true≢false, heard_record, contradiction, is_fixed_at, filler, block_checks}
 use Rattle.nr_blockdesk.proofs.Common.{◌≡◌, ◌≢◌, ◌≤◌, ◌∙◌, IsAccepted, open_still, outcome_of, verdict_on}
 use Rattle.nr_blockdesk.proofs.Common.{ℕ, zero, suc, Bool, true, cond, List, All, refl, sym, subst, arith, Some, None, find, Link}
-use Rattle.nr_blockdesk.proofs.Common.{◌+◌, ◌<◌, length, Option, Hearing, Explains, explains, heard_of, hearings, IsLink}
-use Rattle.nr_blockdesk.proofs.Common.{◌==◌, false, and_parts, HeardBits, record_of, Reception, bit_lists, all_fixed, delivered}
-use Rattle.nr_blockdesk.proofs.Common.{length-append, option_map, range_with_len, flat_map-append, list_all-append, DeliveredIsOnly}
+use Rattle.nr_blockdesk.proofs.Common.{◌+◌, ◌<◌, length, Option, Explains, explains, heard_of, IsLink, list_any}
+use Rattle.nr_blockdesk.proofs.Common.{◌==◌, false, and_parts, HeardBits, Reception, bit_lists, all_fixed, delivered}
+use Rattle.nr_blockdesk.proofs.Common.{length-append, range_with_len, list_all-append, DeliveredIsOnly, AcceptedAreMatched}
 use Rattle.nr_blockdesk.proofs.Common.{false_from_ne_true, get_or_append_left, sum_by-zero, ClosureIsMonotone, ExplainedIsDelivered}
-use Rattle.nr_blockdesk.proofs.Common.{◌||◌, ◌++◌, count_by, list_all, cases_lt, eqb-true, not-true, first_at, is_heard}
+use Rattle.nr_blockdesk.proofs.Common.{◌||◌, ◌++◌, count_by, list_all, eqb-true, not-true, SentBitsAreAt}
+use Rattle.nr_blockdesk.proofs.Common.{matching, list_any-append}
 use Rattle.nr_blockdesk.specs.OutcomeLaws.{AreAllFixed, IsExact, IsExplainer, IsOneLeft, NoneExplains, OutcomesAreExact}
-use Rattle.nr_blockdesk.{specs.OutcomeLaws.OutcomesSettle, specs.OutcomeLaws.is_fixed, proofs.ClosureDecisionFacts.every_fixed}
+use Rattle.nr_blockdesk.specs.OutcomeLaws.{OutcomesSettle, brings, is_fixed, was_received}
+use Rattle.nr_blockdesk.proofs.{ClosureDecisionFacts.every_fixed, ReceivedFacts.fixed-is}
 use Rattle.nr_blockdesk.proofs.OutcomeFacts.{blocks_long, find_passes, is_long, never_contradicts, was-found, was-open}
-use Rattle.nr_blockdesk.proofs.{RecordFacts.first-past, RecordFacts.record-at, RangeTestFacts.range_all}
-use Rattle.std.{proofs.Common.◌⊎◌, specs.Option.option_or, proofs.lemmas.List.Folds.find-append}
+use Rattle.nr_blockdesk.proofs.RangeTestFacts.{range_all}
+use Rattle.std.proofs.Common.{◌⊎◌}
 
 -- a number of a range that fails a test, and one that passes it
 failing : (t : ℕ → Bool) (a n : ℕ) → list_all t (range_with_len a n) ≡ false
@@ -33,13 +35,18 @@ none_left link records each = grind (arith, nat_tests, range_all, counted, not-t
 was-decided : (all : Bool) (o : Option (List Bool)) → cond all (verdict_on o) open_still ≡ contradiction → all ≡ true
 was-decided all o e = grind arith
 
-module _ (only : DeliveredIsOnly) (delivers : ExplainedIsDelivered) (link : Link) (list : List Reception) (is : IsLink link)
-    (accepted : All (IsAccepted link) list) where
+module _ (matched : AcceptedAreMatched) (at : SentBitsAreAt) (only : DeliveredIsOnly) (delivers : ExplainedIsDelivered)
+    (link : Link) (list : List Reception) (is : IsLink link) (accepted : All (IsAccepted link) list) where
   abbrev found : Option (List Bool)
   found = find (explains link list) (bit_lists link.a)
 
   fixed-each : all_fixed link (heard_record link list) ≡ true → AreAllFixed link list
-  fixed-each all r p block low = every_fixed link (heard_record link list) all r block p low
+  fixed-each all r p block low =
+      fixed-is matched at link list r is accepted block p ∙ every_fixed link (heard_record link list) all r block p low
+
+  each-fixed : AreAllFixed link list → all_fixed link (heard_record link list) ≡ true
+  each-fixed all = none_left link (heard_record link list)
+      (λ r p block low. sym (fixed-is matched at link list r is accepted block p) ∙ all r p block low)
 
   delivers-when : (x : List Bool) → outcome_of link list ≡ delivered x → AreAllFixed link list × IsExplainer link list x
   unfolding outcome_of
@@ -49,7 +56,7 @@ module _ (only : DeliveredIsOnly) (delivers : ExplainedIsDelivered) (link : Link
 
   opens-when : outcome_of link list ≡ open_still → IsOneLeft link list
   unfolding outcome_of
-  opens-when e = grind (arith, nat_tests, failing, was-open, counted, not-true)
+  opens-when e = grind (arith, nat_tests, failing, was-open, counted, not-true, fixed-is)
 
   opens-where : IsOneLeft link list → outcome_of link list ≡ open_still
   unfolding outcome_of
@@ -61,7 +68,7 @@ module _ (only : DeliveredIsOnly) (delivers : ExplainedIsDelivered) (link : Link
 
   contradicts-where : AreAllFixed link list × NoneExplains link list → outcome_of link list ≡ contradiction
   unfolding outcome_of
-  contradicts-where both = rw (none_left link (heard_record link list) both.0) (go found refl)
+  contradicts-where both = rw (each-fixed both.0) (go found refl)
     where
       go : (o : Option (List Bool)) → found ≡ o → verdict_on found ≡ contradiction
       go None e = rw e refl
@@ -70,26 +77,29 @@ module _ (only : DeliveredIsOnly) (delivers : ExplainedIsDelivered) (link : Link
           absurd (both.1 x (eqb-true (length x) link.a passes.1, passes.0))
 
   pub exact-one : IsExact link list
-  exact-one = grind (arith, delivers-when, none_left, opens-when, opens-where, contradicts-when, contradicts-where)
+  exact-one = grind (arith, delivers-when, each-fixed, opens-when, opens-where, contradicts-when, contradicts-where)
+
+wider : (a b c : Bool) → (a || c) ≡ true → ((a || b) || c) ≡ true
+wider a b c e = grind arith
+
+abbrev is_brought_by : Link → ℕ → ℕ → Reception → Bool
+is_brought_by link r q x = list_any (brings (matching link x.tx) x.heard r q) (range_with_len 0 (length x.heard))
 
 -- a position that was received stays received
-found-more : (o p : Option Hearing) → is_heard (option_map (λ h. h.1) o) ≡ true
-    → is_heard (option_map (λ h. h.1) (option_or o p)) ≡ true
-found-more o p e = grind arith
-
-heard-more : (n : ℕ) (hs more : List Hearing) (p : ℕ) → is_heard (first_at (record_of n hs) p) ≡ true
-    → is_heard (first_at (record_of n (hs ++ more)) p) ≡ true
-unfolding first_heard
-heard-more n hs more p e = grind (arith, nat_tests, cases_lt, record_of-at, find-append, found-more, first-past)
-
-or-more : (a b c : Bool) → (a ≡ true → b ≡ true) → (a || c) ≡ true → (b || c) ≡ true
-or-more a b c then e = grind arith
+received-more : (link : Link) (list more : List Reception) (r q : ℕ) (b : Bool) → (was_received link list r q || b) ≡ true
+    → (was_received link (list ++ more) r q || b) ≡ true
+received-more link list more r q b was =
+    rw (list_any-append (is_brought_by link r q) list more)
+    (wider (list_any (is_brought_by link r q) list) (list_any (is_brought_by link r q) more) b was)
 
 -- a position that is fixed stays fixed
-fixed-more : ClosureIsMonotone → (link : Link) (list more : List Reception) (r : ℕ) → r < link.plan.c
-    → (p : ℕ) → is_fixed link list r p ≡ true → is_fixed link (list ++ more) r p ≡ true
-unfolding hearings
-fixed-more monotone link list more r block = grind (arith, record-at, flat_map-append, or-more, heard-more)
+fixed-more : ClosureIsMonotone → (link : Link) (list more : List Reception) (r p : ℕ)
+    → is_fixed link list r p ≡ true → is_fixed link (list ++ more) r p ≡ true
+fixed-more monotone link list more r =
+    monotone (block_checks link.table link.graph link.plan)
+    (λ q. was_received link list r q || filler link.plan.kdash link.plan.k q)
+    (λ q. was_received link (list ++ more) r q || filler link.plan.kdash link.plan.k q)
+    (λ q. received-more link list more r q (filler link.plan.kdash link.plan.k q))
 
 explains-before : (link : Link) (list more : List Reception) (x : List Bool) → Explains link (list ++ more) x
     → Explains link list x
@@ -117,7 +127,7 @@ outcomes_settle monotone only exact link list more is accepted = record {
     after = exact link (list ++ more) is accepted
 
     still : AreAllFixed link list → AreAllFixed link (list ++ more)
-    still all r p block low = fixed-more monotone link list more r block p (all r p block low)
+    still all r p block low = fixed-more monotone link list more r p (all r p block low)
 
     never : outcome_of link list ≢ open_still → outcome_of link (list ++ more) ≢ open_still
     never closed e =
@@ -128,7 +138,7 @@ outcomes_settle monotone only exact link list more is accepted = record {
           inside = one.inside;
           below = one.below;
           left = false_from_ne_true (is_fixed link list one.block one.position)
-              (λ was. true≢false (sym (fixed-more monotone link list more one.block one.inside one.position was) ∙ one.left));
+              (λ was. true≢false (sym (fixed-more monotone link list more one.block one.position was) ∙ one.left));
         }))
 
     again : (x : List Bool) → outcome_of link list ≡ delivered x

@@ -9,6 +9,8 @@ use Rattle.nr_blockdesk.proofs.Common.{◌||◌, count_by, list_all, All-cons, a
 use Rattle.nr_blockdesk.proofs.Common.{range_with_len, contradiction, open_still, DeliveredIsOnly, ErasuresAreSafe, attached_length}
 use Rattle.nr_blockdesk.proofs.Common.{false_from_ne_true, ExplainedIsDelivered, ExplainedNeverContradicts, list_all-from_AllPass}
 use Rattle.nr_blockdesk.proofs.Common.{ℕ, suc, true, cond, List, [], refl, sym, ap, Some, None, find, Link, Tx}
+use Rattle.nr_blockdesk.proofs.Common.{ExplainsByRecord, IsDecided}
+use Rattle.nr_blockdesk.specs.ReceiverLaws.{OutcomesAreDecided}
 use Rattle.nr_blockdesk.{specs.ReceiverLaws.NothingIsOpen, specs.ReceiverLaws.NothingLeavesAll, proofs.RangeTestFacts.range_all}
 use Rattle.nr_blockdesk.proofs.{ClosureDecisionFacts.every_fixed, RecordFacts.none_heard, RecordFacts.record-at}
 use Rattle.nr_blockdesk.proofs.LinkFacts.{arrived-place}
@@ -94,6 +96,26 @@ explained_delivered one link list y is accepted whole explained all =
     go (Some x) e =
         let passes = find_passes (explains link list) (is_long link.a) (bit_lists link.a) x (blocks_long link.a) e in
         rw (e, one link list x y is accepted (eqb-true (length x) link.a passes.1) whole passes.0 explained all) refl
+
+-- the outcome of a list is what its record decides
+pub outcomes_decided : ExplainsByRecord → OutcomesAreDecided
+unfolding outcome_of
+outcomes_decided by_record link list is accepted =
+    go (all_fixed link (heard_record link list)) (find (explains link list) (bit_lists link.a)) refl refl
+  where
+    go : (all : Bool) (o : Option (List Bool)) → all_fixed link (heard_record link list) ≡ all
+        → find (explains link list) (bit_lists link.a) ≡ o
+        → IsDecided link (heard_record link list) (cond all (verdict_on o) open_still)
+    go false o none found = none
+    go true None all found = (
+      all,
+      λ y whole by. true≢false (sym ((by_record link list y is accepted whole).1 by)
+          ∙ none_passes link.a (explains link list) found y whole),
+    )
+    go true (Some x) all found =
+        let passes = find_passes (explains link list) (is_long link.a) (bit_lists link.a) x (blocks_long link.a) found in
+        let whole : IsBlock link x = eqb-true (length x) link.a passes.1 in
+        (all, whole, (by_record link list x is accepted whole).0 passes.0)
 
 arrived-agrees : (mark b : Bool) → agrees (arrived_bit mark b) b ≡ true
 arrived-agrees mark b = grind arith

@@ -1,12 +1,29 @@
 -- When each outcome is that of a list of receptions, and what later receptions can make of it.
-use Rattle.std.specs.Prelude.{◌≡◌, ◌≢◌, ◌⊎◌, ◌↔◌, ℕ, ◌<◌, Bool, true, false, List, ◌++◌, All}
-use Rattle.nr_blockdesk.specs.{Explains.Explains, Explains.IsAccepted, Explains.Reception, Heard.heard_of, Heard.heard_record}
-use Rattle.nr_blockdesk.specs.Link.{IsBlock, IsLink, Link}
-use Rattle.nr_blockdesk.specs.Outcome.{contradiction, delivered, is_fixed_at, open_still, outcome_of}
+use Rattle.std.specs.Prelude.{◌≡◌, ◌≢◌, ◌⊎◌, ◌↔◌, ℕ, ◌<◌, ◌==◌, ◌&&◌, ◌||◌, Bool}
+use Rattle.std.specs.Prelude.{true, false, List, ◌++◌, length, All}
+use Rattle.std.specs.List.{list_any, range_with_len}
+use Rattle.nr_ldpcenc.specs.{Codeword.filler, Rows.block_checks}
+use Rattle.nr_peel.specs.Closure.{closure}
+use Rattle.nr_blockdesk.specs.Explains.{Explains, IsAccepted, Reception, heard_at}
+use Rattle.nr_blockdesk.specs.{Link.IsBlock, Link.IsLink, Link.Link, PlacesLaws.is_received, declared.heard.Heard.Heard}
+use Rattle.nr_blockdesk.specs.Outcome.{contradiction, delivered, open_still, outcome_of}
+use Rattle.nr_blockdesk.specs.Sent.{RateMatching, block_at, matching, position_at}
 
--- position p of code block r is fixed by what arrived
+-- a bit was received at place m of a transmission, and the place has position p of code block r
+abbrev pub brings : RateMatching → List Heard → ℕ → ℕ → ℕ → Bool
+brings t places r p m = is_received (heard_at places m) && ((block_at t m == r) && (position_at t m == p))
+
+-- position p of code block r was received, at some place of some transmission
+abbrev pub was_received : Link → List Reception → ℕ → ℕ → Bool
+was_received link list r p =
+    list_any (λ x. list_any (brings (matching link x.tx) x.heard r p) (range_with_len 0 (length x.heard))) list
+
+-- position p of code block r is fixed: the parity rows fix it from the positions received and the fillers, one unknown position
+-- at a time
 abbrev pub is_fixed : Link → List Reception → ℕ → ℕ → Bool
-is_fixed link list r p = is_fixed_at link (heard_of (heard_record link list) r) p
+is_fixed link list r p =
+    closure (block_checks link.table link.graph link.plan)
+    (λ q. was_received link list r q || filler link.plan.kdash link.plan.k q) p
 
 -- every position below K' is fixed, in every code block
 abbrev pub AreAllFixed : Link → List Reception → Type 0

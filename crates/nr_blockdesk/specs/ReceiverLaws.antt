@@ -42,6 +42,11 @@ abbrev pub DecidedIsOnly : Type 0
 DecidedIsOnly = (link : Link) (records : List HeardBits) (v w : Verdict) → IsLink link
     → IsDecided link records v → IsDecided link records w → v ≡ w
 
+-- the outcome of a list of receptions is what its record decides
+abbrev pub OutcomesAreDecided : Type 0
+OutcomesAreDecided = (link : Link) (list : List Reception) → IsLink link → All (IsAccepted link) list
+    → IsDecided link (heard_record link list) (outcome_of link list)
+
 -- what is delivered is a transport block that explains all that arrived, and the only one
 pub record IsOnlyExplainer (link : Link) (list : List Reception) (x : List Bool) : Type 0 where
   pub is_block : IsBlock link x

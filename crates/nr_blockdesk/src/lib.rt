@@ -43,8 +43,8 @@ pub use receiver::Receiver;
 pub use receiver_laws::{
     decided_is_only, delivered_is_only, ends_are_safe, erasures_are_safe, erasures_decide,
     explained_is_delivered, explained_never_contradicts, explainers_agree, explains_by_record,
-    nothing_is_open, nothing_leaves_all, one_explains, outcomes_are_exact, outcomes_settle,
-    places_decide, positions_decide, records_continue,
+    nothing_is_open, nothing_leaves_all, one_explains, outcomes_are_decided, outcomes_are_exact,
+    outcomes_settle, places_decide, positions_decide, records_continue,
 };
 pub use sender::Sender;
 pub use slices::{

@@ -220,10 +220,14 @@ impl<'t, K: Recording> Receiver<'t, K> {
             → Explains self.now.link list block
             → AgreesWith result.now (bit (word self.now.link block r)) }
         ensures peeled { IsPeeled result.now }
+        ensures recorded { result.now.recorded ≡ K.recorded }
     {
         laws::words_are_plain();
         receiver_laws::explains_by_record();
-        &self.code_blocks[r as usize].peeler
+        let peeler = &self.code_blocks[r as usize].peeler;
+        // This call does nothing but hand over its clause `recorded`.
+        let _left = peeler.left();
+        peeler
     }
 
     // What may be handed up, in an empty list that has room for A bits.

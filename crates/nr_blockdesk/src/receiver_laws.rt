@@ -14,6 +14,7 @@ ghost use Rattle.nr_blockdesk.specs.ReceiverLaws.{
   NothingIsOpen,
   NothingLeavesAll,
   OneExplains,
+  OutcomesAreDecided,
   RecordsContinue,
 };
 
@@ -72,6 +73,14 @@ pub fn decided_is_only()
     laws::words_are_plain();
     laws::checks_are_sound();
     laws::words_agree_on_closure();
+}
+
+/// Law: the outcome of a list of receptions is what its record decides.
+#[tactic(auto, using(crate::proofs::OutcomeFacts::outcomes_decided))]
+pub fn outcomes_are_decided()
+    ensures { OutcomesAreDecided }
+{
+    explains_by_record();
 }
 
 /// Law: what is delivered is a transport block that explains all that arrived, and the only one.
@@ -138,6 +147,8 @@ pub fn ends_are_safe()
 pub fn outcomes_are_exact()
     ensures { OutcomesAreExact }
 {
+    laws::accepted_are_matched();
+    laws::sent_bits_are_at();
     delivered_is_only();
     explained_is_delivered();
 }

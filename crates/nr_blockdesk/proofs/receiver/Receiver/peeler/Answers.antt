@@ -36,4 +36,5 @@ returns g c =
           (peelers_of c.self.inside.code_blocks.items) list block c.args.r
           c.self.invariant.is_link c.self.invariant.desk (here g at) of whole explained);
       peeled = (tied g at).peeled;
+      recorded = c.left-left.ensures.recorded;
     })
