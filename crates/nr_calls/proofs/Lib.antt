@@ -27,3 +27,8 @@ mod BatchHearFacts
 mod BatchRoundFacts
 mod ManyFacts
 mod ManySentFacts
+mod PackedFacts
+mod TableFacts
+mod PlacingFacts
+mod PlaceRowFacts
+mod JoiningFacts

@@ -13,6 +13,9 @@ pub mod Cutting
 pub mod Encoding
 pub mod Stages
 pub mod Matching
+pub mod Packed
+pub mod Placing
+pub mod Joining
 pub mod Judging
 pub mod Rooms
 pub mod Keeping

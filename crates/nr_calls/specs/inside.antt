@@ -1,3 +1,5 @@
 pub mod Simulating
 pub mod Batches
 pub mod Words
+pub mod Placings
+pub mod Joinings

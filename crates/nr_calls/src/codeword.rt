@@ -20,8 +20,8 @@ use std::alloc::{AllocError, Global};
 // The octet of a filler.
 const FILLER: u8 = 2;
 
-/// The bits d that a code block is encoded to, one to an octet of `out`. The body of nr_c's export of this name, which
-/// says what each status is, and what `out` holds.
+/// Encodes a code block of a transport block into the N bits d, one to an octet of `out` (TS 38.212, 5.3.2). `nr_c`
+/// exports this call and says what each status means.
 pub fn nr_codeword(
     alloc: Global,
     table: &[NrEntry],

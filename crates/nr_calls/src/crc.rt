@@ -11,7 +11,8 @@ use std::alloc::Global;
 // The most octets that parity bits are made of: 2^24 bits.
 const MOST_OCTETS: usize = 2_097_152;
 
-/// The parity bits of octets, as a number: the body of nr_c's export of this name, which says what each status is.
+/// Computes the parity bits of octets as a number (TS 38.212, 5.1). `nr_c` exports this call and says what each status
+/// means.
 pub fn nr_crc(alloc: Global, poly: u32, octets: &[u8], out: &mut u32) -> u32
     ensures { Returns memory_last result out.old out.new HasValue (crc_said poly octets.now) }
 {

@@ -12,15 +12,15 @@ use std::simd::prelude::*;
 // What each bit of an octet weighs, the lowest first.
 const PLACES: [u8; 8] = [1, 2, 4, 8, 16, 32, 64, 128];
 
-/// What both ends of a link are set to.
+/// The settings that both ends of a link share.
 #[repr(C)]
 #[derive(Clone, Copy)]
 pub struct NrSettings {
-    /// The code rate in 2048ths: 1 to 2048.
+    /// The code rate in 2048ths, 1 to 2048.
     pub rate2048: u32,
-    /// TBS_LBRM, in bits, if the circular buffer is limited (TS 38.212, 5.4.2.1); 0 if it is not.
+    /// TBS_LBRM in bits, which limits the circular buffer (TS 38.212, 5.4.2.1), or 0 for no limit.
     pub lbrm: u32,
-    /// Room for later fields: it is not read.
+    /// Reserved for later fields; it is not read.
     pub reserved: [u32; 2],
 }
 
@@ -41,23 +41,23 @@ impl NrSettings {
     }
 }
 
-/// How a transport block is sent once (TS 38.212, 5.4.2).
+/// One transmission of a transport block (TS 38.212, 5.4.2).
 #[repr(C)]
 #[derive(Clone, Copy)]
 pub struct NrTx {
     /// The redundancy version: 0 to 3.
     pub rv: u32,
-    /// G, how many bits are sent in all: 1 to 4,194,304, a multiple of `qm * nl`.
+    /// G, the number of bits sent: 1 to 4,194,304, a multiple of `qm * nl`.
     pub g: u32,
     /// Qm, the bits of a modulation symbol: 1, 2, 4, 6 or 8.
     pub qm: u32,
     /// NL, the transmission layers: 1 to 4.
     pub nl: u32,
-    /// 0 if every code block is scheduled; any other number if `blocks` says which.
+    /// 0 if every code block is scheduled, any other number if `blocks` says which.
     pub some: u64,
     /// Code block r, counted from 0, is scheduled if bit r mod 64 of word r div 64 is set.
     pub blocks: [u64; 6],
-    /// Room for later fields: it is not read.
+    /// Reserved for later fields; it is not read.
     pub reserved: [u32; 4],
 }
 

@@ -18,8 +18,8 @@ use nr_crcattach::attach;
 use nr_segment::{Plan, cut};
 use std::alloc::{AllocError, Global};
 
-/// The K' bits of code block `r` of a transport block, one to an octet of `out`. The body of nr_c's export of this
-/// name, which says what each status is.
+/// Writes the K' bits of code block `r` of a transport block, one to an octet of `out` (TS 38.212, 5.2.2). `nr_c`
+/// exports this call and says what each status means.
 pub fn nr_cut(alloc: Global, rate2048: u32, block: &[u8], r: u32, out: &mut [u8]) -> u32
     ensures { Returns memory_last result out.old out.new AreBits
         (code_block_said rate2048 block.now r (length out.old)) }

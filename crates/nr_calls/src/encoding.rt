@@ -7,7 +7,7 @@ ghost use Rattle.nr_refusal.specs.Refusal.{Gives};
 ghost use Rattle.nr_segment.specs.CodeBlock.{positions_of};
 ghost use Rattle.nr_shifttable.specs.Accepted.{has_graph};
 ghost use Rattle.nr_calls.specs.Codeword.{is_one};
-ghost use Rattle.nr_calls.specs.Encoding.{AreEncoded, can_lift, encode_by, encode_judged, encode_said, encoded_octet, base_graph};
+ghost use Rattle.nr_calls.specs.Encoding.{AreEncoded, can_lift, encode_judged, encode_said, encoded_octet, base_graph};
 ghost use Rattle.nr_calls.specs.Encoding.{is_coded, word_for};
 ghost use Rattle.nr_calls.specs.inside.Words.{encoded_of, held_columns};
 ghost use Rattle.nr_calls.specs.Entries.{are_placed};
@@ -29,8 +29,8 @@ const FILLER: u8 = 2;
 // The largest lifting size.
 const MOST_LIFTED: u32 = 384;
 
-/// The bits d that K bits are encoded to, one to an octet of `out`. The body of nr_c's export of this name, which says
-/// what each status is, and what `out` holds.
+/// Encodes the K bits of a code block by base graph and lifting size, one bit to an octet of `out` (TS 38.212, 5.3.2).
+/// `nr_c` exports this call and says what each status means.
 pub fn nr_encode(
     alloc: Global,
     table: &[NrEntry],
@@ -76,8 +76,8 @@ fn octet_at(coded: &CodedBlock, octets: &[u8], n: usize) -> u8
     }
 }
 
-// The word that K octets are encoded into, by a shift table's entries, for a room of so many octets.
-#[tactic(auto, unfolding(crate::specs::Encoding::encode_said))]
+// The word that K octets are encoded into, for a room of so many octets.
+#[tactic(auto, unfolding(crate::specs::Encoding::encode_said, crate::specs::Encoding::encode_by))]
 fn encode(
     alloc: Global,
     table: &[NrEntry],
@@ -92,25 +92,8 @@ fn encode(
     ensures placed { are_placed table.now ≡ false → result ≡ Err Fault.Entries }
 {
     let table = table_by(alloc, table)?;
-    encode_by(alloc, &table, graph, z, octets, room)
-}
-
-// The word that K octets are encoded into, by a shift table, for a room of so many octets.
-#[tactic(auto, unfolding(crate::specs::Encoding::encode_by))]
-fn encode_by(
-    alloc: Global,
-    table: &Table,
-    graph: u32,
-    z: u32,
-    octets: &[u8],
-    room: usize,
-) -> Result<CodedBlock, Fault>
-    ensures said { Gives Fault.Memory encoded_of result
-        (encode_by table.now graph z octets.now room) }
-    ensures room { IfOk result (λ coded. coded.plan.n ≡ room) }
-{
-    let plan = encode_plan(table, graph, z, octets, room)?;
-    let word = word_on(alloc, table, &plan, octets)?;
+    let plan = encode_plan(&table, graph, z, octets, room)?;
+    let word = word_on(alloc, &table, &plan, octets)?;
     Ok(CodedBlock { plan, word })
 }
 

@@ -1,4 +1,4 @@
-//! Why a call is refused, and the number that it returns then.
+//! The errors of a call, and the status that each is returned as.
 
 ghost use Rattle.std.specs.Prelude.{◌≡◌};
 ghost use Rattle.nr_calls.specs.Statuses.{block_status, desk_status, plan_status, rate_status, fault_number, table_status};
@@ -10,30 +10,30 @@ use nr_segment::SegFault;
 use nr_shifttable::TableFault;
 use std::alloc::AllocError;
 
-/// Why a call is refused.
+/// The error of a call.
 #[derive(Clone, Copy)]
 pub enum Fault {
-    /// A growth was refused.
+    /// An allocation failed.
     Memory,
-    /// The room for a result does not have the length that the result has.
+    /// An output does not have the length of the result.
     Room,
-    /// There is more than a call takes.
+    /// There are more items than the call accepts.
     Many,
-    /// There is no generator polynomial of this number.
+    /// No generator polynomial has this number.
     Poly,
-    /// An octet for a bit is neither 0 nor 1.
+    /// An octet that stands for a bit is neither 0 nor 1.
     Bit,
     /// No code block of the base graph has this lifting size.
     Lifting,
-    /// There is no code block of this number.
+    /// No code block has this number, or this many fillers.
     CodeBlock,
-    /// The room is no room of a receiver of this transport block, over this table and these settings.
+    /// The receiver's state was created for another table, block size or buffer limit, or it is corrupt.
     State,
-    /// An entry of a shift table is outside its base graph, or is not past those before it.
+    /// An entry of a shift table is outside its base graph, or does not come after those before it.
     Entries,
-    /// The shift table is refused.
+    /// The shift table is rejected.
     Table(TableFault),
-    /// The transport block or a transmission is refused.
+    /// The transport block or a transmission is rejected.
     Desk(DeskFault),
 }
 

@@ -1,4 +1,4 @@
-//! What is found over the transmissions of a transport block, and writing it to a caller's places.
+//! What is decoded over the transmissions of a transport block, and writing it to a caller's memory.
 
 ghost use Rattle.std.specs.Prelude.{◌≡◌, true};
 ghost use Rattle.nr_blockdesk.specs.Receiving.{verdict};

@@ -1,4 +1,4 @@
-//! A receiver in a room of its caller's, which takes up one transmission at a call.
+//! A receiver whose state is in its caller's memory, and which receives one transmission at a call.
 
 ghost use Rattle.std.specs.Prelude.{◌≡◌, ℕ, ◌++◌, Err, flat_map, length, map, false, true, IfErr, IfOk};
 ghost use Rattle.nr_refusal.specs.Refusal.{Gives, or_fault, with_fault};
@@ -29,8 +29,8 @@ use std::alloc::{AllocError, Global};
 // The version of the room's layout.
 const VERSION: u32 = 2;
 
-/// How many octets the room of a receiver has, written to `out`. The body of nr_c's export of this name, which says what
-/// each status is.
+/// Writes to `out` how many octets the state of a receiver has. `nr_c` exports this call and says what each status
+/// means.
 pub fn nr_receiver_size(rate2048: u32, a: u32, out: &mut usize) -> u32
     ensures { Returns no_memory result out.old out.new HasValue (room_said rate2048 a) }
 {
@@ -43,8 +43,8 @@ pub fn nr_receiver_size(rate2048: u32, a: u32, out: &mut usize) -> u32
     }
 }
 
-/// Makes a room that of a receiver which has received nothing. The body of nr_c's export of this name, which says what
-/// each status is.
+/// Makes `room` the state of a receiver that has received nothing. `nr_c` exports this call and says what each status
+/// means.
 pub fn nr_receiver_start(
     alloc: Global,
     table: &[NrEntry],
@@ -120,8 +120,8 @@ fn room_on(header: Vec<u8>, receiver: &Receiver<'_, Unrecorded>) -> Result<Vec<u
     Ok(octets)
 }
 
-/// Takes up one transmission by a receiver in its caller's room. The body of nr_c's export of this name, which says what
-/// each status is, and what is written.
+/// Decodes a transport block after one more transmission, by a receiver whose state is in `room`. `nr_c` exports this
+/// call and says what each status means.
 pub fn nr_receiver_take(
     alloc: Global,
     table: &[NrEntry],
@@ -272,8 +272,7 @@ fn stores_on(
     stores_in(alloc, plan.c, positions(plan), records)
 }
 
-/// Law: what `nr_receiver_take` writes where it takes up a transmission is a function of what it is given, whatever the
-/// room has.
+/// Lemma: what `nr_receiver_take` writes is a function of its arguments and of the state.
 pub fn kept_is_only()
     ensures { KeptIsOnly }
 {

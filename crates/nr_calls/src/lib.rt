@@ -1,11 +1,10 @@
-//! The calls for C of the data coding chain of NR's shared channels (3GPP TS 38.212, Release 15). Each returns a
-//! status, 0 or the number of its first fault (specs/Statuses.antt), and has no `requires`, since it tests all that it
-//! is given. What it writes is a stated function of that. A refusal writes nothing, but for two calls: `nr_table_check`
-//! reports a refused table, and `nr_table_entries` says how many entries its room must hold. The main contracts are
-//! those of `nr_send`, `nr_receive`, `nr_receiver_take` and `nr_simulate`.
+//! The data coding chain of NR's shared channels (3GPP TS 38.212, Release 15) as calls for C. Each call returns 0 or the number
+//! of its first error (specs/Statuses.antt). It has no `requires`, because it checks all of its arguments, and what it writes
+//! is a stated function of them. On an error it writes nothing, with two exceptions: `nr_table_check` reports what is wrong
+//! with a table, and `nr_table_entries` says how many entries its output must hold. The main contracts are those of
+//! `nr_send`, `nr_receive`, `nr_receiver_take` and `nr_simulate`.
 //!
-//! Inside are the bodies of nr_c's exports. They are a library of their own, because each check of a static library
-//! costs more.
+//! These are the bodies of nr_c's exports. They are a library of their own, because checking a static library takes longer.
 #![tactic(auto)]
 
 mod batch;
@@ -19,6 +18,8 @@ pub mod encoding;
 pub mod entries;
 pub mod fault;
 mod findings;
+mod joined_blocks;
+pub mod joining;
 pub mod keeping;
 mod laws;
 mod linking;
@@ -26,6 +27,9 @@ pub mod many;
 pub mod many_sent;
 mod marks;
 pub mod matching;
+pub mod packed;
+mod placed;
+pub mod placing;
 pub mod plan;
 pub mod rates;
 pub mod receiving;

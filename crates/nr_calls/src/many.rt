@@ -1,4 +1,4 @@
-//! Receiving several transport blocks of one size over one list of transmissions, by one reading of the table.
+//! Receiving several transport blocks of one size over one list of transmissions, with the table read once.
 
 ghost use Rattle.std.specs.Prelude.{◌≡◌, ◌*◌, ◌^◌, ◌<◌, ◌≤◌, false, Err, IfOk, IsTrue, MatchResult, Ok};
 ghost use Rattle.std.specs.Prelude.{length};
@@ -51,8 +51,8 @@ impl ManyRoom {
     }
 }
 
-/// What may be handed up of each of `count` transport blocks after each of the transmissions `txs`. The body of nr_c's
-/// export of this name, which says what each status is, and what is written.
+/// Decodes each of `count` transport blocks after each of the transmissions `txs`, with the table read once. `nr_c`
+/// exports this call and says what each status means.
 pub fn nr_receive_many(
     alloc: Global,
     table: &[NrEntry],

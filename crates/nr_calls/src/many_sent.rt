@@ -1,4 +1,4 @@
-//! Sending several transport blocks of one size by the same transmissions each, by one reading of the table.
+//! Sending several transport blocks of one size by the same transmissions each, with the table read once.
 
 ghost use Rattle.std.specs.Prelude.{◌≡◌, ◌++◌, ◌*◌, ◌/◌, false, Err, Ok, flat_map, length, IfErr, IfOk};
 ghost use Rattle.nr_bitvec.specs.BitList.{bits_of};
@@ -9,14 +9,14 @@ ghost use Rattle.nr_calls.specs.Crossing.{AreBits, settings_in, tx_of};
 ghost use Rattle.nr_calls.specs.Entries.{are_placed};
 ghost use Rattle.nr_calls.specs.inside.Simulating.{AreAccepted};
 ghost use Rattle.nr_calls.specs.inside.Words.{joined};
-ghost use Rattle.nr_calls.specs.Many.{first_rows, send_many_by, send_many_said};
+ghost use Rattle.nr_calls.specs.Many.{first_rows, send_many_said};
 ghost use Rattle.nr_calls.specs.Statuses.{Returns, memory_anywhere};
 
 use crate::crossing::{NrSettings, NrTx, write_bits};
 use crate::entries::{NrEntry, table_by};
 use crate::fault::Fault;
 use crate::laws;
-use crate::linking::link_on;
+use crate::linking::{LinkParams, link_on};
 use crate::many::{MOST_TRANSMISSIONS, places_sent};
 use crate::sending::{sender_of, sent_by};
 use crate::simulating::judge_all;
@@ -25,17 +25,16 @@ use nr_blockdesk::{DeskFault, Link, Sender, Settings};
 use nr_shifttable::Table;
 use std::alloc::Global;
 
-// Transport blocks of `a` bits in a row of octets each, and room for the bits of all.
+// Transport blocks in a row of octets each, and room for the bits of all.
 #[derive(Clone, Copy)]
 pub(crate) struct Blocks<'b> {
     count: usize,
-    a: u32,
     octets: &'b [u8],
     room: usize,
 }
 
-/// The bits that the transmissions `txs` send of each of `count` transport blocks of `a` bits, one to an octet of `out`. The
-/// body of nr_c's export of this name, which says what each status is.
+/// Writes the bits that the transmissions `txs` send of each of `count` transport blocks, with the table read once.
+/// `nr_c` exports this call and says what each status means.
 pub fn nr_send_many(
     alloc: Global,
     table: &[NrEntry],
@@ -52,11 +51,11 @@ pub fn nr_send_many(
 {
     let blocks = Blocks {
         count,
-        a,
         octets: blocks,
         room: out.len(),
     };
-    match send_many(alloc, table, settings.settings(), txs, blocks) {
+    let params = LinkParams::of(table, settings, a);
+    match send_many(alloc, params, txs, blocks) {
         Ok(parts) => {
             write_all(&parts, out);
             0
@@ -65,75 +64,59 @@ pub fn nr_send_many(
     }
 }
 
-// The bits of all blocks, by a shift table's entries.
-#[tactic(auto, unfolding(crate::specs::Many::send_many_said))]
+// The bits of all blocks. Everything is judged before the first block is read.
+#[tactic(auto, unfolding(crate::specs::Many::send_many_said, crate::specs::Many::send_many_by))]
 fn send_many(
     alloc: Global,
-    table: &[NrEntry],
-    settings: Settings,
+    params: LinkParams<'_>,
     txs: &[NrTx],
     blocks: Blocks<'_>,
 ) -> Result<Vec<Bits>, Fault>
     ensures said { Gives Fault.Memory (λ parts. joined parts.items) result
-        (send_many_said table.now settings blocks.entry.count blocks.entry.a txs.now blocks.entry.octets.now blocks.entry.room) }
+        (send_many_said params.entry.entries.now params.entry.settings blocks.entry.count params.entry.a
+        txs.now blocks.entry.octets.now blocks.entry.room) }
     ensures room { IfOk result (λ parts. length (joined parts.items) ≡ blocks.entry.room) }
-    ensures placed { are_placed table.now ≡ false → result ≡ Err Fault.Entries }
-{
-    let table = table_by(alloc, table)?;
-    send_many_by(alloc, &table, settings, txs, blocks)
-}
-
-// The bits of all blocks, by a shift table. All is judged before the first block is read.
-#[tactic(auto, unfolding(crate::specs::Many::send_many_by))]
-fn send_many_by(
-    alloc: Global,
-    table: &Table,
-    settings: Settings,
-    txs: &[NrTx],
-    blocks: Blocks<'_>,
-) -> Result<Vec<Bits>, Fault>
-    ensures said { Gives Fault.Memory (λ parts. joined parts.items) result
-        (send_many_by table.now settings blocks.entry.count blocks.entry.a txs.now blocks.entry.octets.now blocks.entry.room) }
-    ensures room { IfOk result (λ parts. length (joined parts.items) ≡ blocks.entry.room) }
+    ensures placed { are_placed params.entry.entries.now ≡ false → result ≡ Err Fault.Entries }
 {
     laws::accepted_send_all();
+    let table = table_by(alloc, params.entries)?;
     if txs.len() > MOST_TRANSMISSIONS {
         return Err(Fault::Many);
     }
-    if blocks.octets.len() as u128 != blocks.count as u128 * u128::from(blocks.a / 8) {
+    if blocks.octets.len() as u128 != blocks.count as u128 * u128::from(params.a / 8) {
         return Err(Fault::Desk(DeskFault::Size));
     }
-    let link = link_on(table, settings, blocks.a)?;
+    let link = link_on(&table, params.settings, params.a)?;
     judge_all(&link, txs)?;
     if blocks.room as u128 != blocks.count as u128 * places_sent(txs) as u128 {
         return Err(Fault::Room);
     }
-    send_rows(alloc, table, settings, &link, txs, blocks)
+    send_rows(alloc, &table, params, &link, txs, blocks)
 }
 
 // The bits of the blocks in turn, once all is judged. Memory alone refuses them.
 fn send_rows(
     alloc: Global,
     table: &Table,
-    settings: Settings,
+    params: LinkParams<'_>,
     link: &Link<'_>,
     txs: &[NrTx],
     blocks: Blocks<'_>,
 ) -> Result<Vec<Bits>, Fault>
-    requires linked { link_said table.now settings blocks.a ≡ Ok link.now }
+    requires linked { link_said table.now params.settings params.a ≡ Ok link.now }
     requires accepted { AreAccepted link.now txs.now }
-    requires whole { length blocks.octets.now ≡ blocks.count * (blocks.a / 8) }
+    requires whole { length blocks.octets.now ≡ blocks.count * (params.a / 8) }
     ensures sent { IfOk result (λ parts. joined parts.items
         ≡ flat_map (λ row. flat_map (λ t. sent link.now (tx_of t) (bits_of row)) txs.now)
-        (first_rows (blocks.entry.a / 8) blocks.entry.count blocks.entry.octets.now)) }
+        (first_rows (params.entry.a / 8) blocks.entry.count blocks.entry.octets.now)) }
     ensures err { IfErr result (λ fault. fault ≡ Fault.Memory) }
 {
     link.is_sound();
-    let size = (blocks.a / 8) as usize;
+    let size = (params.a / 8) as usize;
     let mut parts = Vec::new(alloc);
     for k in 0..blocks.count {
         let row = &blocks.octets[k * size..k * size + size];
-        let sender = sender_over(alloc, table, settings, link, row)?;
+        let sender = sender_over(alloc, table, params.settings, link, row)?;
         send_each(&sender, txs, &mut parts)?;
     }
     Ok(parts)

@@ -1,4 +1,4 @@
-//! What the octets of a transmission say was received, as marks, 64 octets at a time.
+//! The received places of a transmission and their bits, from an octet for each place, 64 octets at a time.
 
 ghost use Rattle.std.specs.Prelude.{◌≡◌, ◌*◌, ◌^◌, ◌≤◌, length, map, take, IfOk};
 ghost use Rattle.nr_bitvec.specs.BitList.{low_first};

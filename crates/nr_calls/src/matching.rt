@@ -21,7 +21,7 @@ use nr_ratematch::{Buffer, RmFault};
 use nr_segment::Plan;
 use std::alloc::{AllocError, Global};
 
-/// The numbers by which a code block is rate matched (TS 38.212, 5.4.2).
+/// The parameters by which a single code block is rate matched (TS 38.212, 5.4.2).
 #[repr(C)]
 #[derive(Clone, Copy)]
 pub struct NrMatch {
@@ -29,7 +29,7 @@ pub struct NrMatch {
     pub graph: u32,
     /// Zc, the lifting size.
     pub z: u32,
-    /// How many of the K bits are fillers: K - K'.
+    /// K - K', the number of fillers among the K bits.
     pub fillers: u32,
     /// Ncb, the bits that the circular buffer keeps: 1 to N.
     pub ncb: u32,
@@ -37,12 +37,12 @@ pub struct NrMatch {
     pub rv: u32,
     /// Qm, the bits of a modulation symbol: 1, 2, 4, 6 or 8.
     pub qm: u32,
-    /// Room for later fields: it is not read.
+    /// Reserved for later fields; it is not read.
     pub reserved: [u32; 2],
 }
 
-/// The bits f that are sent of the bits d of a code block, one to an octet of `out`. The body of nr_c's export of this
-/// name, which says what each status is.
+/// Selects and interleaves the bits of a code block by its own numbers, without a transport block (TS 38.212, 5.4.2).
+/// `nr_c` exports this call and says what each status means.
 pub fn nr_match(alloc: Global, numbers: &NrMatch, d: &[u8], out: &mut [u8]) -> u32
     ensures { Returns memory_last result out.old out.new AreBits
         (matched_said numbers.now d.now (length out.old)) }

@@ -1,4 +1,4 @@
-//! The plan of a transport block.
+//! The segmentation parameters of a transport block.
 
 ghost use Rattle.std.specs.Prelude.{◌≡◌, IfOk, MatchResult, Ok, Err};
 ghost use Rattle.nr_crcattach.specs.Attachment.{attached_length};
@@ -16,31 +16,31 @@ use nr_segment::{Plan, plan};
 // The most bits of a transport block.
 pub(crate) const MOST_BITS: u32 = 1_310_720;
 
-/// The numbers by which a transport block with its CRC is cut into code blocks (TS 38.212, 5.2.2 and 5.3.2).
+/// The segmentation parameters of a transport block (TS 38.212, 5.2.2 and 5.3.2).
 #[repr(C)]
 #[derive(Clone, Copy)]
 pub struct NrPlan {
     /// The base graph: 1 or 2.
     pub graph: u32,
-    /// B, the bits of the transport block with its CRC.
+    /// B, the number of bits of the transport block with its CRC.
     pub b: u32,
-    /// L, the CRC bits of each code block: 24, or 0 if there is one code block.
+    /// L, the number of CRC bits of each code block: 24, or 0 if there is only one.
     pub l: u32,
     /// C, the number of code blocks: 1 to 344.
     pub c: u32,
-    /// K', the bits of each code block with its CRC, without fillers.
+    /// K', the number of bits of each code block with its CRC but without fillers.
     pub kdash: u32,
-    /// Kb, the number of columns that K' bits are spread over.
+    /// Kb, the number of base graph columns that hold the K' bits.
     pub kb: u32,
     /// Zc, the lifting size.
     pub z: u32,
     /// The set index of Zc: 0 to 7.
     pub set: u32,
-    /// K, the bits of each code block with its fillers.
+    /// K, the number of bits of each code block with its fillers.
     pub k: u32,
-    /// N, the bits that a code block is encoded to.
+    /// N, the number of bits that a code block is encoded into.
     pub n: u32,
-    /// Room for later fields: 0.
+    /// Reserved for later fields; it is written as 0.
     pub reserved: [u32; 2],
 }
 
@@ -65,8 +65,8 @@ impl NrPlan {
     }
 }
 
-/// The plan of a transport block of `a` bits at the code rate `rate2048` / 2048. The body of nr_c's export of this
-/// name, which says what each status is.
+/// Computes the segmentation parameters of a transport block (TS 38.212, 5.2.2). `nr_c` exports this call and says what
+/// each status means.
 pub fn nr_plan(rate2048: u32, a: u32, out: &mut NrPlan) -> u32
     ensures { Returns no_memory result out.old out.new HasValue (plan_said rate2048 a) }
 {

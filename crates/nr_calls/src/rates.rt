@@ -1,4 +1,4 @@
-//! How a transmission shares its bits out to the code blocks, and the circular buffer that they are selected from.
+//! How the bits of a transmission are shared out to the code blocks, and the circular buffer that they are selected from.
 
 ghost use Rattle.std.specs.Prelude.{◌≡◌, length, IfOk, MatchResult, Ok, Err};
 ghost use Rattle.nr_calls.specs.{Crossing.settings_in, Crossing.tx_of, Statuses.HasValue, Statuses.Returns, Statuses.no_memory};
@@ -15,15 +15,16 @@ use nr_ratematch::{Buffer, MOST_BLOCKS, lengths};
 #[repr(C)]
 #[derive(Clone, Copy)]
 pub struct NrBuffer {
-    /// Ncb, the bits that the buffer keeps of a code block: 1 to N, at most 25,344.
+    /// Ncb, the number of bits of a code block that the buffer keeps: 1 to N, at most 25,344.
     pub ncb: u32,
-    /// k0, the place in the buffer where the redundancy version begins: below Ncb.
+    /// k0, the index in the buffer at which the redundancy version begins, below Ncb.
     pub k0: u32,
-    /// Room for later fields: 0.
+    /// Reserved for later fields; it is written as 0.
     pub reserved: [u32; 2],
 }
 
-/// E_r of each code block, written to `out`: the body of nr_c's export of this name, which says what each status is.
+/// Writes E_r, the number of bits that a transmission sends of each code block (TS 38.212, 5.4.2.1). `nr_c` exports
+/// this call and says what each status means.
 pub fn nr_lengths(rate2048: u32, a: u32, tx: &NrTx, out: &mut [u32]) -> u32
     ensures { Returns no_memory result out.old out.new HasValue
         (shares_into_said rate2048 a (tx_of tx.now) (length out.old)) }
@@ -73,8 +74,8 @@ fn shares(rate2048: u32, a: u32, tx: &Tx) -> Result<ArrayVec<u32, MOST_BLOCKS>, 
     }
 }
 
-/// The circular buffer of each code block, and where a redundancy version begins in it. The body of nr_c's export of
-/// this name, which says what each status is.
+/// Writes the length of the circular buffer of each code block, and where a redundancy version begins (TS 38.212,
+/// 5.4.2.1). `nr_c` exports this call and says what each status means.
 pub fn nr_buffer(settings: &NrSettings, a: u32, rv: u32, out: &mut NrBuffer) -> u32
     ensures { Returns no_memory result out.old out.new HasValue
         (nr_buffer_said (settings_in settings.now) a rv) }

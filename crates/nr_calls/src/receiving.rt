@@ -2,7 +2,6 @@
 
 ghost use Rattle.std.specs.Prelude.{◌≡◌, ◌++◌, ◌∷◌, [], Err, List, length, map, true, false, IfErr, IfOk};
 ghost use Rattle.nr_refusal.specs.Refusal.{Gives, with_fault};
-ghost use Rattle.nr_shifttable.specs.Accepted.{IsTable};
 ghost use Rattle.nr_blockdesk.specs.Explains.{Reception, reception, reception_said};
 ghost use Rattle.nr_blockdesk.specs.Heard.{IsRecordOf, heard_more};
 ghost use Rattle.nr_blockdesk.specs.Link.{IsLink};
@@ -13,7 +12,7 @@ ghost use Rattle.nr_calls.specs.Crossing.{settings_in};
 ghost use Rattle.nr_calls.specs.Entries.{are_placed};
 ghost use Rattle.nr_calls.specs.Findings.{AreWritten, lefts, outcome_number, outcomes_of, places, room_in};
 ghost use Rattle.nr_calls.specs.inside.Words.{IsLastBlock, findings_of, has_room, one_more_said};
-ghost use Rattle.nr_calls.specs.Receiving.{heard_octet, heard_said, receive_by, receive_into_said};
+ghost use Rattle.nr_calls.specs.Receiving.{heard_octet, heard_said, receive_into_said};
 ghost use Rattle.nr_calls.specs.Statuses.{Returns, memory_anywhere};
 
 use crate::crossing::{NrSettings, NrTx};
@@ -21,16 +20,15 @@ use crate::entries::{NrEntry, table_by};
 use crate::fault::Fault;
 use crate::findings::{Found, Room, outcome_number};
 use crate::laws;
-use crate::linking::{judge_heard, link_on};
+use crate::linking::{LinkParams, judge_heard, link_on};
 use crate::marks::marks_of;
 use crate::plan::plan_on;
 use nr_bitvec::Marks;
-use nr_blockdesk::{DeskFault, Link, Outcome, Receiver, Settings, Tx, Unrecorded};
-use nr_shifttable::Table;
+use nr_blockdesk::{DeskFault, Link, Outcome, Receiver, Tx, Unrecorded};
 use std::alloc::{AllocError, Global};
 
-/// What may be handed up of a transport block after each of the transmissions `txs`. The body of nr_c's export of this
-/// name, which says what each status is, and what is written.
+/// Decodes a transport block after each of the transmissions `txs` (TS 38.212, 5.4.2 and 5.5). `nr_c` exports this call
+/// and says what each status means.
 pub fn nr_receive(
     alloc: Global,
     table: &[NrEntry],
@@ -53,7 +51,8 @@ pub fn nr_receive(
         left: left.len(),
         block: block.len(),
     };
-    match receive(alloc, table, settings.settings(), a, txs, heard, room) {
+    let params = LinkParams::of(table, settings, a);
+    match receive(alloc, params, txs, heard, room) {
         Ok(found) => {
             found.write(outcomes, left, block);
             0
@@ -62,47 +61,26 @@ pub fn nr_receive(
     }
 }
 
-// What is found, for so much room.
-#[tactic(auto, unfolding(crate::specs::Receiving::receive_into_said))]
+// What is found, for so much room. The room is judged before the receiver allocates anything.
+#[tactic(auto, unfolding(crate::specs::Receiving::receive_into_said, crate::specs::Receiving::receive_by))]
 fn receive(
     alloc: Global,
-    table: &[NrEntry],
-    settings: Settings,
-    a: u32,
+    params: LinkParams<'_>,
     txs: &[NrTx],
     octets: &[u8],
     room: Room,
 ) -> Result<Found, Fault>
-    ensures said { Gives Fault.Memory findings_of result
-        (receive_into_said table.now settings a txs.now octets.now room) }
+    ensures said { Gives Fault.Memory findings_of result (receive_into_said params.entry.entries.now
+        params.entry.settings params.entry.a txs.now octets.now room) }
     ensures room { IfOk result (λ found. has_room room (findings_of found) ≡ true) }
-    ensures placed { are_placed table.now ≡ false → result ≡ Err Fault.Entries }
+    ensures placed { are_placed params.entry.entries.now ≡ false → result ≡ Err Fault.Entries }
 {
-    let table = table_by(alloc, table)?;
-    receive_by(alloc, &table, settings, a, txs, octets, room)
-}
-
-// What is found by a shift table. The room is judged before the receiver takes memory.
-#[tactic(auto, unfolding(crate::specs::Receiving::receive_by))]
-fn receive_by(
-    alloc: Global,
-    table: &Table,
-    settings: Settings,
-    a: u32,
-    txs: &[NrTx],
-    octets: &[u8],
-    room: Room,
-) -> Result<Found, Fault>
-    requires { IsTable table.now }
-    ensures said { Gives Fault.Memory findings_of result
-        (receive_by table.now settings a txs.now octets.now room) }
-    ensures room { IfOk result (λ found. has_room room (findings_of found) ≡ true) }
-{
-    let plan = plan_on(settings.rate2048, a)?;
-    if !room.is_for(plan.c, a, txs.len()) {
+    let table = table_by(alloc, params.entries)?;
+    let plan = plan_on(params.settings.rate2048, params.a)?;
+    if !room.is_for(plan.c, params.a, txs.len()) {
         return Err(Fault::Room);
     }
-    let link = link_on(table, settings, a)?;
+    let link = link_on(&table, params.settings, params.a)?;
     receive_over(alloc, link, txs, octets)
 }
 
@@ -250,7 +228,7 @@ fn hear_next(
 }
 
 // An outcome, whose number goes to the end of those before it.
-fn noted(outcomes: &mut Vec<u32>, outcome: Outcome) -> Result<Outcome, AllocError>
+pub(crate) fn noted(outcomes: &mut Vec<u32>, outcome: Outcome) -> Result<Outcome, AllocError>
     ensures same { IfOk result (λ noted. noted ≡ outcome) }
     ensures pushed { IfOk result (λ noted. outcomes.new.items
         ≡ outcomes.old.items ++ outcome_number (verdict outcome) ∷ []) }
@@ -289,7 +267,7 @@ pub(crate) fn hear(
 }
 
 // The outcome after what marks say was received of one more transmission.
-fn take_marks(
+pub(crate) fn take_marks(
     receiver: &mut Receiver<'_, Unrecorded>,
     tx: &Tx,
     marks: &Marks,

@@ -1,4 +1,4 @@
-//! The octets of the room in which a caller in C keeps a receiver: writing them, and reading them again.
+//! The octets of the state of a receiver that a caller in C keeps: writing them, and reading them again.
 
 ghost use Rattle.std.specs.Prelude.{◌≡◌, ℕ, ◌+◌, ◌++◌, ◌<◌, ◌≤◌, ◌^◌, IfOk, OnOk, flat_map};
 ghost use Rattle.std.specs.Prelude.{length, slice_index_or};
@@ -186,8 +186,8 @@ fn store_in(alloc: Global, positions: usize, octets: &[u8]) -> Result<Store, Fau
     Ok(Store::of_record(marks, *clash == 1))
 }
 
-/// Law: what a room is read as is said by the writer alone. A room that a call has left is never refused, and one that is
-/// read has the octets of the records that are read.
+/// Lemma: how a state is read follows from how it is written. A state that a call has written is always accepted, and one that
+/// is accepted has the octets of the records that are read from it.
 pub fn rooms_are_read()
     ensures { RoomsAreRead }
 {}

@@ -8,7 +8,7 @@ ghost use Rattle.nr_blockdesk.specs.Sent.{sending_said, sent_said, tx_said};
 ghost use Rattle.nr_transmission.specs.declared.fault.DeskFault.TheVariants as desk;
 ghost use Rattle.nr_calls.specs.Crossing.{AreBits, settings_in, tx_of};
 ghost use Rattle.nr_calls.specs.Entries.{are_placed};
-ghost use Rattle.nr_calls.specs.Sending.{send_by, send_into_said, send_call_said};
+ghost use Rattle.nr_calls.specs.Sending.{send_into_said, send_call_said};
 ghost use Rattle.nr_calls.specs.Statuses.{Returns, memory_anywhere};
 
 use crate::crossing::{NrSettings, NrTx, write_bits};
@@ -22,8 +22,8 @@ use std::alloc::Global;
 // The most octets of a transport block.
 pub(crate) const MOST_OCTETS: usize = 163_840;
 
-/// The bits that a transmission sends of a transport block, one to an octet of `out`. The body of nr_c's export of this
-/// name, which says what each status is.
+/// Writes the bits that a transmission sends of a transport block, one to an octet of `out` (TS 38.212, 6.2 and 7.2).
+/// `nr_c` exports this call and says what each status means.
 pub fn nr_send(
     alloc: Global,
     table: &[NrEntry],
@@ -74,8 +74,8 @@ fn send_into(
 }
 
 // The bits of a transmission.
-#[tactic(auto, unfolding(crate::specs::Sending::send_call_said))]
-fn send(
+#[tactic(auto, unfolding(crate::specs::Sending::send_call_said, crate::specs::Sending::send_by))]
+pub(crate) fn send(
     alloc: Global,
     table: &[NrEntry],
     settings: Settings,
@@ -87,25 +87,10 @@ fn send(
     ensures placed { are_placed table.now ≡ false → result ≡ Err Fault.Entries }
 {
     let table = table_by(alloc, table)?;
-    send_by(alloc, &table, settings, block, tx)
-}
-
-// The bits of a transmission, by a shift table.
-#[tactic(auto, unfolding(crate::specs::Sending::send_by))]
-pub(crate) fn send_by(
-    alloc: Global,
-    table: &Table,
-    settings: Settings,
-    block: &[u8],
-    tx: &Tx,
-) -> Result<Bits, Fault>
-    ensures { Gives Fault.Memory (λ bits. bits.items) result
-        (send_by table.now settings block.now tx.now) }
-{
     if block.len() > MOST_OCTETS {
         return Err(Fault::Desk(DeskFault::Size));
     }
-    let sender = sender_of(alloc, table, settings, block)?;
+    let sender = sender_of(alloc, &table, settings, block)?;
     sent_by(&sender, tx)
 }
 

@@ -5,12 +5,11 @@
 
 ghost use Rattle.std.specs.Prelude.{◌≡◌, ◌*◌, ◌≤◌, false, Bool, Err, Ok, List, length, IfErr, IfOk};
 ghost use Rattle.std.specs.Prelude.{MatchResult};
-ghost use Rattle.nr_shifttable.specs.Accepted.{IsTable};
 ghost use Rattle.nr_blockdesk.specs.Link.{IsBlock};
 ghost use Rattle.nr_calls.specs.Crossing.{settings_in};
 ghost use Rattle.nr_calls.specs.Entries.{are_placed};
 ghost use Rattle.nr_calls.specs.inside.Simulating.{AreAccepted, AreFilled, ComesTo, simulation_of};
-ghost use Rattle.nr_calls.specs.Simulating.{AreSimulated, drawn_round, lists_said, simulated, simulating_by, simulating_said};
+ghost use Rattle.nr_calls.specs.Simulating.{AreSimulated, drawn_round, lists_said, simulated, simulating_said};
 ghost use Rattle.nr_calls.specs.Simulating.{simulation, simulation_room, txs_said};
 ghost use Rattle.nr_calls.specs.Statuses.{Returns, memory_anywhere};
 
@@ -18,11 +17,10 @@ use crate::batch::{MOST_ROUNDS, hear_batch};
 use crate::crossing::{NrSettings, NrTx};
 use crate::entries::{NrEntry, table_by};
 use crate::fault::Fault;
-use crate::linking::link_on;
+use crate::linking::{LinkParams, link_on};
 use crate::plan::plan_on;
 use crate::rounds::{Rounds, shares_of};
-use nr_blockdesk::{DeskFault, Link, Settings};
-use nr_shifttable::Table;
+use nr_blockdesk::{DeskFault, Link};
 use std::alloc::Global;
 
 // The most transmissions of a round.
@@ -36,8 +34,8 @@ pub(crate) struct RoundRoom {
     pub(crate) erased: usize,
 }
 
-/// Rounds of a transport block over drawn erasures, each heard until the block is delivered. The body of nr_c's export of
-/// this name, which says what each status is, and what is written.
+/// Simulates rounds of a transport block over random erasures, each until the block is delivered. `nr_c` exports this
+/// call and says what each status means.
 pub fn nr_simulate(
     alloc: Global,
     table: &[NrEntry],
@@ -62,16 +60,8 @@ pub fn nr_simulate(
         left: left.len(),
         erased: erased.len(),
     };
-    match simulate(
-        alloc,
-        table,
-        settings.settings(),
-        a,
-        txs,
-        thresholds,
-        seeds,
-        room,
-    ) {
+    let params = LinkParams::of(table, settings, a);
+    match simulate(alloc, params, txs, thresholds, seeds, room) {
         Ok(rounds) => {
             delivered.copy_from_slice(&rounds.delivered);
             left.copy_from_slice(&rounds.left);
@@ -82,49 +72,26 @@ pub fn nr_simulate(
     }
 }
 
-// The result of the rounds, by a shift table's entries.
-#[tactic(auto, unfolding(crate::specs::Simulating::simulating_said))]
+// The result of the rounds. Everything is judged before the first round.
+#[tactic(auto, unfolding(crate::specs::Simulating::simulating_said, crate::specs::Simulating::simulating_by))]
 fn simulate(
     alloc: Global,
-    table: &[NrEntry],
-    settings: Settings,
-    a: u32,
+    params: LinkParams<'_>,
     txs: &[NrTx],
     thresholds: &[u32],
     seeds: &[u64],
     room: RoundRoom,
 ) -> Result<Rounds, Fault>
     ensures said { ComesTo result txs.now thresholds.now seeds.now room.delivered
-        (simulating_said table.now settings a
+        (simulating_said params.entry.entries.now params.entry.settings params.entry.a
         txs.now thresholds.now seeds.now room) }
     ensures room { IfOk result (AreFilled room) }
-    ensures placed { are_placed table.now ≡ false → result ≡ Err Fault.Entries }
+    ensures placed { are_placed params.entry.entries.now ≡ false → result ≡ Err Fault.Entries }
 {
-    let table = table_by(alloc, table)?;
-    simulate_by(alloc, &table, settings, a, txs, thresholds, seeds, room)
-}
-
-// The result of the rounds, by a shift table. All is judged before any round is heard.
-#[tactic(auto, unfolding(crate::specs::Simulating::simulating_by))]
-fn simulate_by(
-    alloc: Global,
-    table: &Table,
-    settings: Settings,
-    a: u32,
-    txs: &[NrTx],
-    thresholds: &[u32],
-    seeds: &[u64],
-    room: RoundRoom,
-) -> Result<Rounds, Fault>
-    requires { IsTable table.now }
-    ensures said { ComesTo result txs.now thresholds.now seeds.now room.delivered
-        (simulating_by table.now settings a
-        txs.now thresholds.now seeds.now room) }
-    ensures room { IfOk result (AreFilled room) }
-{
-    let plan = plan_on(settings.rate2048, a)?;
+    let table = table_by(alloc, params.entries)?;
+    let plan = plan_on(params.settings.rate2048, params.a)?;
     judge_lists(txs, thresholds, seeds, room, plan.c)?;
-    let link = link_on(table, settings, a)?;
+    let link = link_on(&table, params.settings, params.a)?;
     judge_all(&link, txs)?;
     hear_rounds(alloc, &link, txs, thresholds, seeds, room)
 }

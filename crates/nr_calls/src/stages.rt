@@ -30,8 +30,8 @@ const FILLER: u8 = 2;
 // The most bits of a code block that a transmission sends.
 pub(crate) const MOST_SENT: usize = 4_194_304;
 
-/// The bits e_r that a redundancy version selects from the bits d of a code block, one to an octet of `out`. The body of
-/// nr_c's export of this name, which says what each status is.
+/// Selects bits of a code block by the redundancy version, one to an octet of `out` (TS 38.212, 5.4.2.1). `nr_c`
+/// exports this call and says what each status means.
 pub fn nr_select(
     alloc: Global,
     settings: &NrSettings,
@@ -156,8 +156,8 @@ fn full_word(alloc: Global, plan: &Plan, d: &[u8]) -> Result<Word, AllocError>
     Ok(word)
 }
 
-/// The bits f_r in which a transmission sends the selected bits of a code block, one to an octet of `out`. The body of
-/// nr_c's export of this name, which says what each status is.
+/// Interleaves the selected bits of a code block, one to an octet of `out` (TS 38.212, 5.4.2.2). `nr_c` exports this
+/// call and says what each status means.
 pub fn nr_interleave(alloc: Global, qm: u32, bits: &[u8], out: &mut [u8]) -> u32
     ensures { Returns memory_last result out.old out.new AreBits
         (interleaved_said qm bits.now (length out.old)) }

@@ -1,4 +1,4 @@
-//! Judging the text of a shift table, and reading its entries.
+//! Checking the text of a shift table, and reading its entries.
 
 ghost use Rattle.std.specs.Prelude.{◌≡◌, ◌≢◌, ◌<◌, Ok, length};
 ghost use Rattle.nr_refusal.specs.Refusal.{with_fault};
@@ -13,23 +13,23 @@ use nr_graphpick::Graph;
 use nr_shifttable::{Table, TableFault};
 use std::alloc::Global;
 
-/// What judging a shift table tells.
+/// What checking a shift table finds.
 #[repr(C)]
 #[derive(Clone, Copy)]
 pub struct NrReport {
-    /// How many entries of base graph 1 an accepted table has; otherwise 0.
+    /// The number of entries of base graph 1 if the table is accepted, else 0.
     pub one: u32,
-    /// How many entries of base graph 2 an accepted table has; otherwise 0.
+    /// The number of entries of base graph 2 if the table is accepted, else 0.
     pub two: u32,
-    /// Of a refused table, the number of the record, counted from 1, at which 21, 23, 24 and 25 are met. Of 26 to 28 it is
-    /// the base graph, 1 or 2; otherwise 0.
+    /// If the table is rejected with 21, 23, 24 or 25, the number of the record, counted from 1; with 26 to 28 the base
+    /// graph; else 0.
     pub place: u32,
-    /// Room for later fields: 0.
+    /// Reserved for later fields; it is written as 0.
     pub reserved: u32,
 }
 
-/// Judges the shift table of a text, and writes what it tells to `out`. The body of nr_c's export of this name, which
-/// says what each status is.
+/// Checks the shift table of a text and writes what it finds to `out` (TS 38.212, 5.3.2). `nr_c` exports this call and
+/// says what each status means.
 pub fn nr_table_check(alloc: Global, text: &[u8], out: &mut NrReport) -> u32
     ensures said { OrOutOfMemory result out.old out.new ((result ≡ judged_status (table_said text.now))
         × (out.new ≡ report_of (table_said text.now))) }
@@ -69,8 +69,8 @@ fn write_report(judged: Result<Table, TableFault>, out: &mut NrReport) -> u32
     }
 }
 
-/// The entries of the shift table of a text, written to `out`, and how many they are. The body of nr_c's export of this
-/// name, which says what each status is.
+/// Reads the shift table of a text and writes its entries to `out` (TS 38.212, 5.3.2). `nr_c` exports this call and
+/// says what each status means.
 pub fn nr_table_entries(alloc: Global, text: &[u8], out: &mut [NrEntry], count: &mut usize) -> u32
     ensures said { OrOutOfMemory result (listing out.old count.old) (listing out.new count.new)
         ((result ≡ listed_status (length out.old) (table_said text.now)) × (listing out.new count.new

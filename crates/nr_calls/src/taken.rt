@@ -1,4 +1,4 @@
-//! What a receiver in its caller's room has taken up, and writing it to its caller's places.
+//! What a receiver has decoded after one more transmission, and writing it to its caller's memory.
 
 ghost use Rattle.std.specs.Prelude.{◌≡◌, true};
 ghost use Rattle.nr_blockdesk.specs.Receiving.{verdict};

@@ -10,4 +10,4 @@ use Rattle.nr_calls.proofs.many_sent.send_rows.Given as goal
 abbrev pub invariant-loop-k : goal.invariant-loop-k
 invariant-loop-k l = joined l.parts.items
     ≡ flat_map (λ row. flat_map (λ t. sent l.link (tx_of t) (bits_of row)) l.txs)
-    (take l.k (first_rows (l.fn.blocks.a / 8) l.fn.blocks.count l.fn.blocks.octets.now))
+    (take l.k (first_rows (l.fn.params.a / 8) l.fn.blocks.count l.fn.blocks.octets.now))
