@@ -15,26 +15,25 @@ use nr_calls::crossing::{NrSettings, NrTx};
 use nr_calls::entries::NrEntry;
 use std::alloc::Global;
 
-/// The bits that a transmission sends of a transport block, one to an octet of `out` (TS 38.212, 6.2 and 7.2). `block`
-/// has eight bits to an octet, the first most significant, and `out` G octets. It does not depend on what was sent
-/// before.
+/// Writes the G bits that a transmission sends of a transport block, one to an octet of `out` (TS 38.212, 6.2 and 7.2).
+/// `block` has eight bits to an octet, the first most significant. The result does not depend on earlier calls.
 ///
 /// # Errors
 ///
-/// In this order:
+/// The first that applies, in this order:
 ///
-/// - 31 `Entries`, if an entry of the shift table is outside its base graph, or is not past those before it;
+/// - 31 `Entries`, if an entry of the shift table is outside its base graph, or does not come after those before it;
 /// - 29 `Empty`, if the shift table has no entry;
-/// - of each base graph that has an entry 26 `Core`, 27 `Extension` and 28 `MissingRow`;
-/// - 40 `Size`, 41 `RateRange` and 45 `Uneven`, as `nr_plan` has them;
+/// - 26 `Core`, 27 `Extension` or 28 `MissingRow`, for each base graph that has an entry;
+/// - 40 `Size`, 41 `RateRange` or 45 `Uneven`, as `nr_plan` returns them;
 /// - 46 `Graph`, if the table lacks the base graph of such a block;
 /// - 47 `NoBuffer`, if the limited buffer keeps no bit;
-/// - of the transmission 50 `Rv`, 51 `Order`, 52 `Layers`, 53 `Total`, 54 `Ragged` and 55 `NoneScheduled`, as
-///   `nr_lengths` has them;
+/// - of the transmission 50 `Rv`, 51 `Order`, 52 `Layers`, 53 `Total`, 54 `Ragged` or 55 `NoneScheduled`, as
+///   `nr_lengths` returns them;
 /// - 2 `Room`, if `out` does not have G octets;
-/// - 1, as soon as memory runs out, never in place of 31.
+/// - 1, as soon as memory runs out, but never in place of 31.
 ///
-/// Then `out` is as it was.
+/// On an error nothing is written.
 #[unsafe(no_mangle)]
 pub extern "C" fn nr_send(
     alloc: Global,
@@ -51,31 +50,32 @@ pub extern "C" fn nr_send(
     nr_calls::sending::nr_send(alloc, table, settings, block, tx, out)
 }
 
-/// What may be handed up of a transport block of `a` bits after each of the transmissions `txs` (TS 38.212, 5.4.2 and
-/// 5.5). `heard` has what was received, an octet for each place, one transmission after the other. 0 and 1 are bits,
-/// and any other octet is an erased place. Writes to `outcomes`, which has an entry for each transmission, the outcome
-/// of that transmission and those before it. It is 0 if a position below K' is not fixed, and 2 if no transport block
-/// explains all that was received. It is 1 if the one transport block that does so is delivered. Writes to `left`, which
-/// has an entry for each of the C code blocks, how many positions below K' are left after the last transmission. `block`
-/// has a / 8 octets. If the last outcome is 1 the transport block goes there, eight bits to an octet, the first most
-/// significant. Otherwise `block` is as it was.
+/// Decodes a transport block of `a` bits after each of the transmissions `txs` (TS 38.212, 5.4.2 and 5.5). `heard` has
+/// an octet for each received bit, one transmission after the other: 0 and 1 are bits, and any other octet is an erased
+/// place.
+///
+/// `outcomes` has an entry for each transmission. It becomes 0 if the transmissions so far leave a bit below K'
+/// undecided; 1 if the block is delivered, which is then the only one that is consistent with everything received; and
+/// 2 if no block is. `left` has an entry for each of the C code blocks, which becomes the number of its K' bits that
+/// are undecided after the last transmission. `block` has a / 8 octets. If the last outcome is 1 the transport block is
+/// written there, eight bits to an octet, the first most significant; otherwise `block` is not written.
 ///
 /// # Errors
 ///
-/// In this order:
+/// The first that applies, in this order:
 ///
-/// - of the shift table 31 `Entries`, 29 `Empty`, 26 `Core`, 27 `Extension` and 28 `MissingRow`, as `nr_send` has
+/// - of the shift table 31 `Entries`, 29 `Empty`, 26 `Core`, 27 `Extension` or 28 `MissingRow`, as `nr_send` returns
 ///   them;
-/// - 40 `Size`, 41 `RateRange` and 45 `Uneven`, as `nr_plan` has them;
-/// - 2 `Room`, if `outcomes`, `left` or `block` does not have so many entries;
+/// - 40 `Size`, 41 `RateRange` or 45 `Uneven`, as `nr_plan` returns them;
+/// - 2 `Room`, if `outcomes`, `left` or `block` has another length;
 /// - 46 `Graph`, if the table lacks the base graph of such a block;
 /// - 47 `NoBuffer`, if the limited buffer keeps no bit;
-/// - of each transmission in turn 56 `Length`, if fewer than G octets are left, and the faults 50 to 55, as
-///   `nr_lengths` has them;
+/// - for each transmission in turn 56 `Length`, if fewer than G octets are left, or 50 to 55, as `nr_lengths` returns
+///   them;
 /// - 56 `Length`, if octets are left over;
-/// - 1, as soon as memory runs out, never in place of 31.
+/// - 1, as soon as memory runs out, but never in place of 31.
 ///
-/// Then `outcomes`, `left` and `block` are as they were.
+/// On an error nothing is written.
 #[unsafe(no_mangle)]
 pub extern "C" fn nr_receive(
     alloc: Global,
@@ -97,17 +97,17 @@ pub extern "C" fn nr_receive(
     nr_calls::receiving::nr_receive(alloc, table, settings, a, txs, heard, outcomes, left, block)
 }
 
-/// How many octets the room of a receiver of transport blocks of `a` bits has, written to `out`. The code rate is
-/// `rate2048` / 2048. It is an octet for each position of each codeword, one more for each code block, and 32. Takes no
-/// memory.
+/// Writes to `out` the number of octets of the state of a receiver of transport blocks of `a` bits at the code rate
+/// `rate2048` / 2048. It is one for each position of each codeword, one more for each code block, and 32. The call
+/// allocates nothing.
 ///
 /// # Errors
 ///
-/// In this order:
+/// The first that applies:
 ///
-/// - 40 `Size`, 41 `RateRange` and 45 `Uneven`, as `nr_plan` has them.
+/// - 40 `Size`, 41 `RateRange` or 45 `Uneven`, as `nr_plan` returns them.
 ///
-/// Then `out` is as it was.
+/// On an error nothing is written.
 #[unsafe(no_mangle)]
 pub extern "C" fn nr_receiver_size(rate2048: u32, a: u32, out: &mut usize) -> u32
     ensures { Returns no_memory result out.old out.new HasValue (room_said rate2048 a) }
@@ -115,22 +115,22 @@ pub extern "C" fn nr_receiver_size(rate2048: u32, a: u32, out: &mut usize) -> u3
     nr_calls::keeping::nr_receiver_size(rate2048, a, out)
 }
 
-/// Makes `room` that of a receiver of a transport block of `a` bits that has received nothing. It has as many octets as
-/// `nr_receiver_size` says. A room is plain data: it may be copied, kept and sent elsewhere.
+/// Makes `room` the state of a receiver of a transport block of `a` bits that has received nothing. `room` has as many
+/// octets as `nr_receiver_size` says. The state is plain data, which may be copied, stored and sent elsewhere.
 ///
 /// # Errors
 ///
-/// In this order:
+/// The first that applies, in this order:
 ///
-/// - of the shift table 31 `Entries`, 29 `Empty`, 26 `Core`, 27 `Extension` and 28 `MissingRow`, as `nr_send` has
+/// - of the shift table 31 `Entries`, 29 `Empty`, 26 `Core`, 27 `Extension` or 28 `MissingRow`, as `nr_send` returns
 ///   them;
-/// - 40 `Size`, 41 `RateRange` and 45 `Uneven`, as `nr_plan` has them;
+/// - 40 `Size`, 41 `RateRange` or 45 `Uneven`, as `nr_plan` returns them;
 /// - 2 `Room`, if `room` has another length;
 /// - 46 `Graph`, if the table lacks the base graph of such a block;
 /// - 47 `NoBuffer`, if the limited buffer keeps no bit;
-/// - 1, as soon as memory runs out, never in place of 31.
+/// - 1, as soon as memory runs out, but never in place of 31.
 ///
-/// Then `room` is as it was.
+/// On an error nothing is written.
 #[unsafe(no_mangle)]
 pub extern "C" fn nr_receiver_start(
     alloc: Global,
@@ -146,29 +146,28 @@ pub extern "C" fn nr_receiver_start(
     nr_calls::keeping::nr_receiver_start(alloc, table, settings, a, room)
 }
 
-/// What may be handed up of a transport block of `a` bits after one transmission more (TS 38.212, 5.4.2 and 5.5). The
-/// receiver is kept in `room`. `heard` has what was received, an octet for each of the G places. 0 and 1 are bits, and
-/// any other octet is an erased place. Writes the outcome to `outcome`, and to `left` and `block` what `nr_receive`
-/// writes there. The room then has this transmission too, whatever it had. For every list of receptions that the room was
-/// of, the outcome is that of the list with this one.
+/// Decodes a transport block of `a` bits after one more transmission (TS 38.212, 5.4.2 and 5.5). The receiver's state
+/// is in `room`, and afterwards has this transmission too. `heard` has an octet for each of the G places: 0 and 1 are
+/// bits, and any other octet is an erased place. The outcome goes to `outcome`. It is that of all transmissions that
+/// the state has received. `left` and `block` become what `nr_receive` writes to them.
 ///
 /// # Errors
 ///
-/// In this order:
+/// The first that applies, in this order:
 ///
-/// - of the shift table 31 `Entries`, 29 `Empty`, 26 `Core`, 27 `Extension` and 28 `MissingRow`, as `nr_send` has
+/// - of the shift table 31 `Entries`, 29 `Empty`, 26 `Core`, 27 `Extension` or 28 `MissingRow`, as `nr_send` returns
 ///   them;
-/// - 40 `Size`, 41 `RateRange` and 45 `Uneven`, as `nr_plan` has them;
+/// - 40 `Size`, 41 `RateRange` or 45 `Uneven`, as `nr_plan` returns them;
 /// - 2 `Room`, if `room`, `left` or `block` has another length;
 /// - 46 `Graph`, if the table lacks the base graph of such a block;
 /// - 47 `NoBuffer`, if the limited buffer keeps no bit;
-/// - 8 `State`, if `room` is not of this table, block size and buffer, or has an octet that no call writes;
-/// - of the transmission 50 `Rv`, 51 `Order`, 52 `Layers`, 53 `Total`, 54 `Ragged` and 55 `NoneScheduled`, as
-///   `nr_lengths` has them;
+/// - 8 `State`, if `room` was created for another table, block size or buffer limit, or is corrupt;
+/// - of the transmission 50 `Rv`, 51 `Order`, 52 `Layers`, 53 `Total`, 54 `Ragged` or 55 `NoneScheduled`, as
+///   `nr_lengths` returns them;
 /// - 56 `Length`, if `heard` does not have G octets;
-/// - 1, as soon as memory runs out, never in place of 31.
+/// - 1, as soon as memory runs out, but never in place of 31.
 ///
-/// Then `room`, `outcome`, `left` and `block` are as they were.
+/// On an error nothing is written.
 #[unsafe(no_mangle)]
 pub extern "C" fn nr_receiver_take(
     alloc: Global,
@@ -193,9 +192,9 @@ pub extern "C" fn nr_receiver_take(
     )
 }
 
-/// Erases the places that a generator draws: writes 2 to octet m of `heard` if word m of PCG-XSH-RR 64/32 is below
-/// `threshold`. The generator starts from the seed `seed`, on stream 54. The other octets are as they were. Takes no
-/// memory, and returns 0.
+/// Erases the places that a pseudo-random generator draws: octet m of `heard` becomes 2 if word m of PCG-XSH-RR 64/32
+/// is below `threshold`. The generator starts from `seed` on stream 54. All other octets stay as they are. The call
+/// allocates nothing and returns 0.
 #[unsafe(no_mangle)]
 pub extern "C" fn nr_erase(seed: u64, threshold: u32, heard: &mut [u8]) -> u32
     ensures status { result ≡ 0 }
@@ -205,30 +204,33 @@ pub extern "C" fn nr_erase(seed: u64, threshold: u32, heard: &mut [u8]) -> u32
     nr_calls::drawing::nr_erase(seed, threshold, heard)
 }
 
-/// Simulates rounds of a transport block of `a` bits over a link that erases drawn places. A round sends `txs` in turn
-/// until the block is delivered. Transmission k of round i erases place m if word m of the generator of `nr_erase` is
-/// below threshold k of `thresholds`. The generator starts from the seed i * T + k of `seeds`; T is the number of
-/// transmissions. Writes to `delivered`, which has an entry for each round, after how many transmissions the block is
-/// delivered, and 0 if it is not. `left` and `erased` have an entry for each of the C code blocks after each
-/// transmission of each round. They are how many positions below K' are not fixed then, and how many of its places the
-/// transmission has erased. Both are 0 after the delivery. All of it is so for every transport block.
+/// Simulates rounds of a transport block of `a` bits over a link that erases places at random. A round sends the
+/// transmissions `txs` in turn until the block is delivered. Transmission k of round i erases place m if word m of the
+/// generator of `nr_erase` is below `thresholds[k]`; the generator starts from seed i T + k of `seeds`, where T is the
+/// number of transmissions.
+///
+/// `delivered` has an entry for each round, which becomes the number of transmissions after which the block is
+/// delivered, or 0 if it is not. `left` and `erased` have an entry for each code block after each transmission of each
+/// round. They become how many of its K' bits are undecided then, and how many of its places that transmission has
+/// erased; both are 0 once the block is delivered. The results hold for every transport block, since over erasures they
+/// do not depend on its bits.
 ///
 /// # Errors
 ///
-/// In this order:
+/// The first that applies, in this order:
 ///
-/// - of the shift table 31 `Entries`, 29 `Empty`, 26 `Core`, 27 `Extension` and 28 `MissingRow`, as `nr_send` has
+/// - of the shift table 31 `Entries`, 29 `Empty`, 26 `Core`, 27 `Extension` or 28 `MissingRow`, as `nr_send` returns
 ///   them;
-/// - 40 `Size`, 41 `RateRange` and 45 `Uneven`, as `nr_plan` has them;
+/// - 40 `Size`, 41 `RateRange` or 45 `Uneven`, as `nr_plan` returns them;
 /// - 3 `Many`, if there are more than 1,000 transmissions;
 /// - 56 `Length`, if `thresholds` does not have T entries, or `seeds` does not have T for each round;
-/// - 2 `Room`, if `left` or `erased` does not have so many entries;
+/// - 2 `Room`, if `left` or `erased` has another length;
 /// - 46 `Graph`, if the table lacks the base graph of such a block;
 /// - 47 `NoBuffer`, if the limited buffer keeps no bit;
-/// - of each transmission in turn the faults 50 to 55, as `nr_lengths` has them;
-/// - 1, as soon as memory runs out, never in place of 31.
+/// - for each transmission in turn 50 to 55, as `nr_lengths` returns them;
+/// - 1, as soon as memory runs out, but never in place of 31.
 ///
-/// Then `delivered`, `left` and `erased` are as they were.
+/// On an error nothing is written.
 #[unsafe(no_mangle)]
 pub extern "C" fn nr_simulate(
     alloc: Global,

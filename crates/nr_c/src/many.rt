@@ -11,23 +11,24 @@ use nr_calls::crossing::{NrSettings, NrTx};
 use nr_calls::entries::NrEntry;
 use std::alloc::Global;
 
-/// The bits that the transmissions `txs` send of each of `count` transport blocks of `a` bits (TS 38.212, 6.2 and 7.2).
-/// `blocks` has a row of a / 8 octets for each. `out` has a row of the G octets of each transmission, one after the other,
-/// as `nr_send` has them.
+/// Writes the bits that the transmissions `txs` send of each of `count` transport blocks of `a` bits, for which the
+/// table is read only once (TS 38.212, 6.2 and 7.2). `blocks` has a row of a / 8 octets for each block. `out` has a row
+/// for each block: the G octets of each transmission, one after the other, as `nr_send` writes them.
 ///
 /// # Errors
 ///
-/// In this order:
+/// The first that applies, in this order:
 ///
-/// - of the shift table 31 `Entries`, 29 `Empty`, 26 `Core`, 27 `Extension` and 28 `MissingRow`, as `nr_send` has them;
+/// - of the shift table 31 `Entries`, 29 `Empty`, 26 `Core`, 27 `Extension` or 28 `MissingRow`, as `nr_send` returns
+///   them;
 /// - 3 `Many`, if there are more than 1,000 transmissions;
-/// - 40 `Size`, if `a` is no size as `nr_plan` has it, or `blocks` does not have `count` rows;
-/// - 41 `RateRange`, 45 `Uneven`, 46 `Graph` and 47 `NoBuffer`, as `nr_send` has them;
-/// - for each transmission in turn those of it, as `nr_send` has them: 50 `Rv` to 55 `NoneScheduled`;
+/// - 40 `Size`, as `nr_plan` returns it, or if `blocks` does not have `count` rows;
+/// - 41 `RateRange`, 45 `Uneven`, 46 `Graph` or 47 `NoBuffer`, as `nr_send` returns them;
+/// - for each transmission in turn 50 to 55, as `nr_lengths` returns them;
 /// - 2 `Room`, if `out` does not have `count` rows;
-/// - 1, as soon as memory runs out, never in place of 31.
+/// - 1, as soon as memory runs out, but never in place of 31.
 ///
-/// Then `out` is as it was. All is judged before the first block, and of no block too.
+/// On an error nothing is written. All of it is judged before the first block, also if `count` is 0.
 #[unsafe(no_mangle)]
 pub extern "C" fn nr_send_many(
     alloc: Global,
@@ -46,23 +47,25 @@ pub extern "C" fn nr_send_many(
     nr_calls::many_sent::nr_send_many(alloc, table, settings, a, txs, count, blocks, out)
 }
 
-/// What may be handed up of each of `count` transport blocks of `a` bits after each of the transmissions `txs` (TS 38.212,
-/// 5.4.2 and 5.5). Each has a row in `heard`, `outcomes`, `left` and `blocks`, as `nr_receive` has them for one.
+/// Decodes each of `count` transport blocks of `a` bits after each of the transmissions `txs`, for which the table is
+/// read only once (TS 38.212, 5.4.2 and 5.5). `heard`, `outcomes`, `left` and `blocks` have a row for each block, as
+/// long as `nr_receive` has it for one.
 ///
 /// # Errors
 ///
-/// In this order:
+/// The first that applies, in this order:
 ///
-/// - of the shift table 31 `Entries`, 29 `Empty`, 26 `Core`, 27 `Extension` and 28 `MissingRow`, as `nr_send` has them;
+/// - of the shift table 31 `Entries`, 29 `Empty`, 26 `Core`, 27 `Extension` or 28 `MissingRow`, as `nr_send` returns
+///   them;
 /// - 3 `Many`, if there are more than 1,000 transmissions;
-/// - 40 `Size`, 41 `RateRange` and 45 `Uneven`, as `nr_plan` has them;
+/// - 40 `Size`, 41 `RateRange` or 45 `Uneven`, as `nr_plan` returns them;
 /// - 2 `Room`, if `outcomes`, `left` or `blocks` does not have `count` rows;
-/// - 56 `Length`, if `heard` does not have `count` rows of the octets of all transmissions;
-/// - 46 `Graph` and 47 `NoBuffer`, as `nr_send` has them;
-/// - of the first block those of each transmission in turn, as `nr_receive` has them;
-/// - 1, as soon as memory runs out, never in place of 31.
+/// - 56 `Length`, if `heard` does not have `count` rows;
+/// - 46 `Graph` or 47 `NoBuffer`, as `nr_send` returns them;
+/// - for the first block and each transmission in turn 50 to 55, as `nr_lengths` returns them;
+/// - 1, as soon as memory runs out, but never in place of 31.
 ///
-/// Then `outcomes`, `left` and `blocks` are as they were. With no block, all but the transmissions is judged.
+/// On an error nothing is written. If `count` is 0 everything but the transmissions is judged.
 #[unsafe(no_mangle)]
 pub extern "C" fn nr_receive_many(
     alloc: Global,

@@ -20,18 +20,18 @@ use nr_calls::plan::NrPlan;
 use nr_calls::rates::NrBuffer;
 use std::alloc::Global;
 
-/// The plan of a transport block of `a` bits at the code rate `rate2048` / 2048, written to `out` (TS 38.212, 5.2.2,
-/// 6.2.2 and 7.2.2). Takes no memory.
+/// Computes the segmentation parameters of a transport block of `a` bits at the code rate `rate2048` / 2048 and writes
+/// them to `out` (TS 38.212, 5.2.2, 6.2.2 and 7.2.2). The call allocates nothing.
 ///
 /// # Errors
 ///
-/// In this order:
+/// The first that applies, in this order:
 ///
-/// - 40 `Size`, if `a` is not 8 to 1,310,720 in whole octets;
+/// - 40 `Size`, if `a` is not a multiple of 8 from 8 to 1,310,720;
 /// - 41 `RateRange`, if `rate2048` is not 1 to 2048;
-/// - 45 `Uneven`, if the code blocks would not have equally many bits.
+/// - 45 `Uneven`, if the code blocks would not all have the same number of bits.
 ///
-/// Then `out` is as it was.
+/// On an error nothing is written.
 #[unsafe(no_mangle)]
 pub extern "C" fn nr_plan(rate2048: u32, a: u32, out: &mut NrPlan) -> u32
     ensures { Returns no_memory result out.old out.new HasValue (plan_said rate2048 a) }
@@ -39,18 +39,19 @@ pub extern "C" fn nr_plan(rate2048: u32, a: u32, out: &mut NrPlan) -> u32
     nr_calls::plan::nr_plan(rate2048, a, out)
 }
 
-/// The parity bits of octets, as a number of 24 or 16 bits, the first parity bit highest, written to `out` (TS 38.212,
-/// 5.1). `poly` is 0 for gCRC24A, 1 for gCRC24B, 2 for gCRC16; an octet is eight bits, the first most significant.
+/// Computes the parity bits of `octets` and writes them to `out` as a number of 24 or 16 bits, the first parity bit
+/// most significant (TS 38.212, 5.1). `poly` is 0 for gCRC24A, 1 for gCRC24B and 2 for gCRC16. An octet has eight bits,
+/// the first most significant.
 ///
 /// # Errors
 ///
-/// In this order:
+/// The first that applies, in this order:
 ///
 /// - 4 `Poly`, if `poly` is above 2;
 /// - 3 `Many`, if there are more than 2,097,152 octets;
-/// - 1, if memory runs out, never in place of these.
+/// - 1, if memory runs out, which is returned only if none of these applies.
 ///
-/// Then `out` is as it was.
+/// On an error nothing is written.
 #[unsafe(no_mangle)]
 pub extern "C" fn nr_crc(alloc: Global, poly: u32, octets: &[u8], out: &mut u32) -> u32
     ensures { Returns memory_last result out.old out.new HasValue (crc_said poly octets.now) }
@@ -58,20 +59,20 @@ pub extern "C" fn nr_crc(alloc: Global, poly: u32, octets: &[u8], out: &mut u32)
     nr_calls::crc::nr_crc(alloc, poly, octets, out)
 }
 
-/// The K' bits of code block `r`, counted from 0, of a transport block at the code rate `rate2048` / 2048. They are
-/// written one to an octet of `out`, which has K' octets (TS 38.212, 5.2.2). They are c_r without the fillers that
-/// follow them. `block` has eight bits to an octet, the first most significant.
+/// Writes the K' bits of code block `r` of a transport block, one bit to an octet (TS 38.212, 5.2.2). They are c_r
+/// without the fillers that follow them. `block` has eight bits to an octet, the first most significant; `rate2048` /
+/// 2048 is the code rate; `r` is counted from 0; and `out` has K' octets.
 ///
 /// # Errors
 ///
-/// In this order:
+/// The first that applies, in this order:
 ///
-/// - 40 `Size`, 41 `RateRange` and 45 `Uneven`, as `nr_plan` has them;
+/// - 40 `Size`, 41 `RateRange` or 45 `Uneven`, as `nr_plan` returns them;
 /// - 7 `CodeBlock`, if `r` is not below C;
 /// - 2 `Room`, if `out` does not have K' octets;
-/// - 1, if memory runs out, never in place of these.
+/// - 1, if memory runs out, which is returned only if none of these applies.
 ///
-/// Then `out` is as it was.
+/// On an error nothing is written.
 #[unsafe(no_mangle)]
 pub extern "C" fn nr_cut(alloc: Global, rate2048: u32, block: &[u8], r: u32, out: &mut [u8]) -> u32
     ensures { Returns memory_last result out.old out.new AreBits
@@ -80,24 +81,25 @@ pub extern "C" fn nr_cut(alloc: Global, rate2048: u32, block: &[u8], r: u32, out
     nr_calls::cutting::nr_cut(alloc, rate2048, block, r, out)
 }
 
-/// The bits d that the K bits c of a code block are encoded to (TS 38.212, 5.3.2). The base graph and the lifting size
-/// `z` alone decide how. They are written one to an octet of `out`, which has N octets. `bits` has c, an octet for
-/// each. 0 and 1 are bits, and 2 is a filler, which is coded as 0. `out` has 2 in each place in which c has a filler.
+/// Encodes the K bits c of a code block and writes the N bits d, one to an octet (TS 38.212, 5.3.2). The code is that
+/// of the base graph `graph` and the lifting size `z`, so that no transport block is needed. `bits` has an octet for
+/// each bit of c: 0, 1, or 2 for a filler, which is encoded as 0. `out` has N octets, which become 0 or 1, or 2
+/// wherever c has a filler.
 ///
 /// # Errors
 ///
-/// In this order:
+/// The first that applies, in this order:
 ///
-/// - of the shift table 31 `Entries`, 29 `Empty`, 26 `Core`, 27 `Extension` and 28 `MissingRow`, as `nr_send` has
+/// - of the shift table 31 `Entries`, 29 `Empty`, 26 `Core`, 27 `Extension` or 28 `MissingRow`, as `nr_send` returns
 ///   them;
 /// - 46 `Graph`, if `graph` is neither 1 nor 2, or the table lacks it;
-/// - 6 `Lifting`, if code blocks of the base graph do not have the lifting size;
+/// - 6 `Lifting`, if no code block of the base graph has the lifting size;
 /// - 56 `Length`, if `bits` does not have K octets;
-/// - 5 `Bit`, if one of them is none of 0, 1 and 2;
+/// - 5 `Bit`, if one of them is not 0, 1 or 2;
 /// - 2 `Room`, if `out` does not have N octets;
-/// - 1, as soon as memory runs out, never in place of 31.
+/// - 1, as soon as memory runs out, but never in place of 31.
 ///
-/// Then `out` is as it was.
+/// On an error nothing is written.
 #[unsafe(no_mangle)]
 pub extern "C" fn nr_encode(
     alloc: Global,
@@ -114,24 +116,24 @@ pub extern "C" fn nr_encode(
     nr_calls::encoding::nr_encode(alloc, table, graph, z, bits, out)
 }
 
-/// The bits d that a code block is encoded to (TS 38.212, 5.3.2), one to an octet of `out`, which has N octets. 0 and 1
-/// are bits, and 2 is a filler, which is never sent. The code block is one of a transport block of `a` bits at the code
-/// rate `rate2048` / 2048. `bits` has its K' bits with its CRC, without fillers, an octet of 0 or 1 for each.
+/// Encodes a code block of a transport block of `a` bits at the code rate `rate2048` / 2048 and writes the N bits d,
+/// one to an octet (TS 38.212, 5.3.2). `bits` has the K' bits with their CRC but without fillers, an octet of 0 or 1
+/// each, as `nr_cut` writes them. `out` has N octets, which become 0 or 1, or 2 for a filler, which is never sent.
 ///
 /// # Errors
 ///
-/// In this order:
+/// The first that applies, in this order:
 ///
-/// - of the shift table 31 `Entries`, 29 `Empty`, 26 `Core`, 27 `Extension` and 28 `MissingRow`, as `nr_send` has
+/// - of the shift table 31 `Entries`, 29 `Empty`, 26 `Core`, 27 `Extension` or 28 `MissingRow`, as `nr_send` returns
 ///   them;
-/// - 40 `Size`, 41 `RateRange` and 45 `Uneven`, as `nr_plan` has them;
+/// - 40 `Size`, 41 `RateRange` or 45 `Uneven`, as `nr_plan` returns them;
 /// - 46 `Graph`, if the table lacks the base graph;
 /// - 56 `Length`, if `bits` does not have K' octets;
 /// - 5 `Bit`, if one of them is neither 0 nor 1;
 /// - 2 `Room`, if `out` does not have N octets;
-/// - 1, as soon as memory runs out, never in place of 31.
+/// - 1, as soon as memory runs out, but never in place of 31.
 ///
-/// Then `out` is as it was.
+/// On an error nothing is written.
 #[unsafe(no_mangle)]
 pub extern "C" fn nr_codeword(
     alloc: Global,
@@ -148,24 +150,24 @@ pub extern "C" fn nr_codeword(
     nr_calls::codeword::nr_codeword(alloc, table, rate2048, a, bits, out)
 }
 
-/// E_r, how many bits a transmission sends of each of the C code blocks of a transport block of `a` bits. The code rate
-/// is `rate2048` / 2048. They are written to `out`, which has an entry for each code block (TS 38.212, 5.4.2.1). They
-/// are multiples of Qm, 0 if the code block is not scheduled, and together G. Takes no memory.
+/// Writes E_r, the number of bits that a transmission sends of each of the C code blocks of a transport block of `a`
+/// bits at the code rate `rate2048` / 2048 (TS 38.212, 5.4.2.1). `out` has an entry for each code block. The entries
+/// are multiples of Qm, add up to G, and are 0 for a code block that is not scheduled. The call allocates nothing.
 ///
 /// # Errors
 ///
-/// In this order:
+/// The first that applies, in this order:
 ///
-/// - 40 `Size`, 41 `RateRange` and 45 `Uneven`, as `nr_plan` has them;
+/// - 40 `Size`, 41 `RateRange` or 45 `Uneven`, as `nr_plan` returns them;
 /// - 50 `Rv`, if the redundancy version is above 3;
-/// - 51 `Order`, if `qm` is none of 1, 2, 4, 6 and 8;
+/// - 51 `Order`, if `qm` is not 1, 2, 4, 6 or 8;
 /// - 52 `Layers`, if `nl` is not 1 to 4;
 /// - 53 `Total`, if `g` is not 1 to 4,194,304;
-/// - 54 `Ragged`, if `g` is no multiple of `qm * nl`;
+/// - 54 `Ragged`, if `g` is not a multiple of `qm * nl`;
 /// - 55 `NoneScheduled`, if no code block of the transport block is scheduled;
 /// - 2 `Room`, if `out` does not have C entries.
 ///
-/// Then `out` is as it was.
+/// On an error nothing is written.
 #[unsafe(no_mangle)]
 pub extern "C" fn nr_lengths(rate2048: u32, a: u32, tx: &NrTx, out: &mut [u32]) -> u32
     ensures { Returns no_memory result out.old out.new HasValue
@@ -174,19 +176,19 @@ pub extern "C" fn nr_lengths(rate2048: u32, a: u32, tx: &NrTx, out: &mut [u32]) 
     nr_calls::rates::nr_lengths(rate2048, a, tx, out)
 }
 
-/// The circular buffer of each code block of a transport block of `a` bits, written to `out` (TS 38.212, 5.4.2.1). With
-/// it is written where the redundancy version `rv` begins in it (Table 5.4.2.1-2). Both count places of d, the N bits
-/// that `nr_codeword` writes. Takes no memory.
+/// Writes to `out` the length Ncb of the circular buffer of each code block of a transport block of `a` bits, and the
+/// index k0 at which the redundancy version `rv` begins in it (TS 38.212, 5.4.2.1 and Table 5.4.2.1-2). Both count bits
+/// of d, which `nr_codeword` writes. The call allocates nothing.
 ///
 /// # Errors
 ///
-/// In this order:
+/// The first that applies, in this order:
 ///
-/// - 40 `Size`, 41 `RateRange` and 45 `Uneven`, as `nr_plan` has them;
+/// - 40 `Size`, 41 `RateRange` or 45 `Uneven`, as `nr_plan` returns them;
 /// - 47 `NoBuffer`, if the limited buffer keeps no bit;
 /// - 50 `Rv`, if `rv` is above 3.
 ///
-/// Then `out` is as it was.
+/// On an error nothing is written.
 #[unsafe(no_mangle)]
 pub extern "C" fn nr_buffer(settings: &NrSettings, a: u32, rv: u32, out: &mut NrBuffer) -> u32
     ensures { Returns no_memory result out.old out.new HasValue
@@ -195,23 +197,23 @@ pub extern "C" fn nr_buffer(settings: &NrSettings, a: u32, rv: u32, out: &mut Nr
     nr_calls::rates::nr_buffer(settings, a, rv, out)
 }
 
-/// The bits e_r that the redundancy version `rv` selects from the bits d of a code block (TS 38.212, 5.4.2.1). They are
-/// as many as `out` has octets, one to an octet. The code block is one of a transport block of `a` bits. `d` has N
-/// octets: 0 and 1 are bits, and 2 is a filler, in each place in which the code block has one.
+/// Writes e_r, the bits that the redundancy version `rv` selects from the bits d of a code block of a transport block
+/// of `a` bits (TS 38.212, 5.4.2.1). It selects as many as `out` has octets, one bit to an octet. `d` has N octets of 0
+/// or 1, or 2 wherever the code block has a filler, as `nr_codeword` writes them.
 ///
 /// # Errors
 ///
-/// In this order:
+/// The first that applies, in this order:
 ///
-/// - 40 `Size`, 41 `RateRange` and 45 `Uneven`, as `nr_plan` has them;
+/// - 40 `Size`, 41 `RateRange` or 45 `Uneven`, as `nr_plan` returns them;
 /// - 47 `NoBuffer`, if the limited buffer keeps no bit;
 /// - 50 `Rv`, if `rv` is above 3;
 /// - 56 `Length`, if `d` does not have N octets;
-/// - 5 `Bit`, if one of them is no bit, or is no 2 in the place of a filler;
+/// - 5 `Bit`, if an octet is neither 0 nor 1, or not 2 in the place of a filler;
 /// - 3 `Many`, if `out` has more than 4,194,304 octets;
-/// - 1, if memory runs out, never in place of these.
+/// - 1, if memory runs out, which is returned only if none of these applies.
 ///
-/// Then `out` is as it was.
+/// On an error nothing is written.
 #[unsafe(no_mangle)]
 pub extern "C" fn nr_select(
     alloc: Global,
@@ -227,21 +229,21 @@ pub extern "C" fn nr_select(
     nr_calls::stages::nr_select(alloc, settings, a, rv, d, out)
 }
 
-/// The bits f_r: the selected bits e_r of a code block in the order in which a transmission sends them (TS 38.212,
-/// 5.4.2.2). `bits` has e_r, an octet of 0 or 1 for each, and `out` gets as many. `qm` is the modulation order Qm.
+/// Writes f_r: the selected bits e_r of a code block in the order in which a transmission sends them (TS 38.212,
+/// 5.4.2.2). `bits` has e_r, an octet of 0 or 1 each; `out` has as many octets; and `qm` is the modulation order Qm.
 ///
 /// # Errors
 ///
-/// In this order:
+/// The first that applies, in this order:
 ///
-/// - 51 `Order`, if `qm` is none of 1, 2, 4, 6 and 8;
+/// - 51 `Order`, if `qm` is not 1, 2, 4, 6 or 8;
 /// - 3 `Many`, if there are more than 4,194,304 octets;
-/// - 54 `Ragged`, if they are no multiple of `qm`;
+/// - 54 `Ragged`, if their number is not a multiple of `qm`;
 /// - 5 `Bit`, if one of them is neither 0 nor 1;
 /// - 2 `Room`, if `out` has another length;
-/// - 1, if memory runs out, never in place of these.
+/// - 1, if memory runs out, which is returned only if none of these applies.
 ///
-/// Then `out` is as it was.
+/// On an error nothing is written.
 #[unsafe(no_mangle)]
 pub extern "C" fn nr_interleave(alloc: Global, qm: u32, bits: &[u8], out: &mut [u8]) -> u32
     ensures { Returns memory_last result out.old out.new AreBits
@@ -250,27 +252,28 @@ pub extern "C" fn nr_interleave(alloc: Global, qm: u32, bits: &[u8], out: &mut [
     nr_calls::stages::nr_interleave(alloc, qm, bits, out)
 }
 
-/// The bits f that a transmission sends of one code block (TS 38.212, 5.4.2): as many as `out` has octets, one to an octet.
-/// The redundancy version selects them from the bits `d`, as `nr_encode` writes them, and they are interleaved. `numbers`
-/// alone say how, without a transport block. With `qm` 1 they are the selected bits in their order.
+/// Writes f, the bits that a transmission sends of one code block, selected from the bits `d` and interleaved (TS
+/// 38.212, 5.4.2). It writes as many as `out` has octets, one bit to an octet. `numbers` alone say how, so that no
+/// transport block is needed. `d` has N octets, as `nr_encode` writes them. If `numbers.qm` is 1 the bits stay in the
+/// order in which they were selected.
 ///
 /// # Errors
 ///
-/// In this order:
+/// The first that applies, in this order:
 ///
 /// - 46 `Graph`, if `graph` is neither 1 nor 2;
-/// - 6 `Lifting`, if code blocks of the base graph do not have the lifting size;
-/// - 7 `CodeBlock`, if `fillers` is not below K - 2 Zc, so that K' would not be above 2 Zc;
+/// - 6 `Lifting`, if no code block of the base graph has the lifting size;
+/// - 7 `CodeBlock`, if `fillers` is not below K - 2 Zc, because K' is then not above 2 Zc;
 /// - 47 `NoBuffer`, if `ncb` is not 1 to N;
 /// - 50 `Rv`, if `rv` is above 3;
-/// - 51 `Order`, if `qm` is none of 1, 2, 4, 6 and 8;
+/// - 51 `Order`, if `qm` is not 1, 2, 4, 6 or 8;
 /// - 56 `Length`, if `d` does not have N octets;
-/// - 5 `Bit`, if one of them is no bit, or is no 2 in the place of a filler;
+/// - 5 `Bit`, if an octet is neither 0 nor 1, or not 2 in the place of a filler;
 /// - 3 `Many`, if `out` has more than 4,194,304 octets;
-/// - 54 `Ragged`, if they are no multiple of `qm`;
-/// - 1, if memory runs out, never in place of these.
+/// - 54 `Ragged`, if their number is not a multiple of `qm`;
+/// - 1, if memory runs out, which is returned only if none of these applies.
 ///
-/// Then `out` is as it was.
+/// On an error nothing is written.
 #[unsafe(no_mangle)]
 pub extern "C" fn nr_match(alloc: Global, numbers: &NrMatch, d: &[u8], out: &mut [u8]) -> u32
     ensures { Returns memory_last result out.old out.new AreBits

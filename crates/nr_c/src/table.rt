@@ -12,20 +12,20 @@ use nr_calls::fault::Fault;
 use nr_calls::table::NrReport;
 use std::alloc::Global;
 
-/// Judges the shift table of a text (TS 38.212, 5.3.2: the columns of Tables 5.3.2-2 and 5.3.2-3). Writes what it tells
-/// to `out`, whether the table is accepted or refused.
+/// Checks the shift table of a text (TS 38.212, Tables 5.3.2-2 and 5.3.2-3) and writes what it finds to `out`, whether
+/// the table is accepted or not.
 ///
 /// # Errors
 ///
-/// In this order:
+/// The first that applies, in this order:
 ///
 /// - 30 `TooLong`, if the text has more than 4,194,304 octets;
-/// - record by record 21 `Csv`, 22 `Fields`, 23 `Number`, 24 `Range` and 25 `Twice`;
+/// - record by record 21 `Csv`, 22 `Fields`, 23 `Number`, 24 `Range` or 25 `Twice`;
 /// - 29 `Empty`, if there is no entry;
-/// - of each base graph that has an entry 26 `Core`, 27 `Extension` and 28 `MissingRow`;
-/// - 1, if memory runs out, never in place of 30.
+/// - 26 `Core`, 27 `Extension` or 28 `MissingRow`, for each base graph that has an entry;
+/// - 1, if memory runs out, but never in place of 30.
 ///
-/// With 1 `out` is as it was.
+/// Only with 1 is `out` not written.
 #[unsafe(no_mangle)]
 pub extern "C" fn nr_table_check(alloc: Global, text: &[u8], out: &mut NrReport) -> u32
     ensures said { OrOutOfMemory result out.old out.new ((result ≡ judged_status (table_said text.now))
@@ -35,19 +35,19 @@ pub extern "C" fn nr_table_check(alloc: Global, text: &[u8], out: &mut NrReport)
     nr_calls::table::nr_table_check(alloc, text, out)
 }
 
-/// The entries of the shift table of a text, written to `out`, which has an entry for each. They are in the order that
-/// the other calls take: base graph 1 before 2, then row by row, then by column (TS 38.212, 5.3.2). Writes to `count`
-/// how many they are, also if `out` has another length.
+/// Reads the shift table of a text and writes its entries to `out` in the order that the other calls take: base graph 1
+/// before 2, then by row, then by column (TS 38.212, 5.3.2). `out` has an entry for each. `count` becomes the number of
+/// entries, also if `out` has another length.
 ///
 /// # Errors
 ///
-/// In this order:
+/// The first that applies, in this order:
 ///
-/// - 21 to 30, as `nr_table_check` has them;
-/// - 2 `Room`, if `out` does not have so many entries;
-/// - 1, if memory runs out, never in place of 30.
+/// - 21 to 30, as `nr_table_check` returns them;
+/// - 2 `Room`, if `out` does not have as many entries;
+/// - 1, if memory runs out, but never in place of 30.
 ///
-/// Then `out` is as it was, and so is `count` with any but 2.
+/// On an error `out` is not written, and `count` only with 2.
 #[unsafe(no_mangle)]
 pub extern "C" fn nr_table_entries(
     alloc: Global,
