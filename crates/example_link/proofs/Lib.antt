@@ -1,2 +1,0 @@
-mod BurstFacts
-mod RoundFacts
