@@ -1,11 +1,11 @@
 //! The data coding chain of 5G NR's shared channels (3GPP TS 38.212, Release 15) as a program. What its commands write
-//! is a stated function of the octets that they read. Otherwise nothing is written, and the fault is given by the same
-//! function. If memory ran out, or the Sink failed, a first part of the text may be written.
+//! is defined as a function of the octets that they read; if they fail, nothing is written, and the same function gives
+//! the error. Only if memory ran out, or the Sink failed, a first part of the text may have been written.
 //!
-//! Inside the parts are put together. `job` reads the command line (nr_job). The five commands work over any Source and
-//! Sink (nr_commands, nr_linkcommands), and `finish` says how a run ends (nr_ends). `cut` shows what the standard makes
-//! of each transport block up to its code blocks, and `check` judges a shift table file. `send` writes the bits sent,
-//! `run` what a receiver makes of them over a link that loses bits, and `audit` why.
+//! `main` puts the parts together. `job` reads the command line (nr_job), the five commands work over any Source and
+//! Sink (nr_commands, nr_linkcommands), and `finish` reports how a run ends (nr_ends). `cut` shows what the standard
+//! makes of each transport block up to its code blocks, and `check` checks a shift table file. `send` writes the bits
+//! sent, `run` what a receiver makes of them over a link that erases and flips bits, and `audit` why.
 #![tactic(auto)]
 
 ghost use Rattle.std.specs.Prelude.{◌≡◌, ◌^◌, ◌<◌, drop, IfOk};

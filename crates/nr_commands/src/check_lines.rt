@@ -1,4 +1,4 @@
-//! The line of `check`.
+//! The line that `check` writes.
 
 ghost use Rattle.std.specs.Prelude.{◌≡◌, IfOk};
 ghost use Rattle.nr_commands.specs.CheckLines.{graph_line};

@@ -13,16 +13,16 @@ use nr_shifttable::{Table, TableFault};
 use nr_streams::{Sink, Source};
 use std::alloc::Global;
 
-/// Judges a shift table file (TS 38.212, 5.3.2). Writes a line for each base graph that the table has, graph 1 first:
-/// how many entries it has.
+/// Checks a shift table file (TS 38.212, 5.3.2) and writes a line for each base graph that the table has, graph 1
+/// first, with the number of its entries.
 ///
-/// The file is read to its end and judged whole before the first put. Then each line is written as soon as it is
-/// made.
+/// The whole file is read and checked before the first put. Then each line is written as soon as it is made.
 ///
 /// # Errors
-/// In this order: `Table`, the first fault of the file, which leaves the Sink as it was. `Write` if a put failed,
-/// and then a first part of the text is written. `Memory` if a growth is refused, and then nothing or a first part
-/// of the text is written.
+///
+/// In this order: `Table` with the first error of the file, after which the Sink is unchanged; `Write` if a put failed,
+/// after which a first part of the text is written. `Memory` if memory runs out, after which nothing or a first part of
+/// the text is written.
 pub fn check<T: Source, O: Sink>(alloc: Global, table: &mut T, out: &mut O) -> Result<(), RunFault>
     requires pulls { T.failures table.old < 2 ^ 32 }
     requires puts { O.failures out.old < 2 ^ 32 }

@@ -1,4 +1,4 @@
-//! The lines of `cut`.
+//! The lines that `cut` writes.
 
 ghost use Rattle.std.specs.Prelude.{◌≡◌, ◌<◌, ◌++◌, IfOk, OnOk, flat_map, length};
 ghost use Rattle.std.specs.List.{range_with_len};

@@ -1,5 +1,6 @@
-//! The text of `cut`: for each transport block its plan, its bits with the CRC, and the bits of its code blocks.
-//! Blocks are judged first, and then each line is written as soon as it is made, those of code blocks all at once.
+//! The text of `cut`: for each transport block its segmentation parameters, its bits with the CRC, and the bits of its
+//! code blocks. All blocks are checked first. Then each line is written as soon as it is made, those of the code blocks
+//! of a block together.
 
 ghost use Rattle.std.specs.Prelude.{◌≡◌, ℕ, ◌≤◌, ◌<◌, ◌+◌, ◌^◌, IfOk, IfErr, IsOk, IsOkAnd, Err, All};
 ghost use Rattle.std.specs.Prelude.{map, length};
@@ -73,10 +74,11 @@ fn judge_block(rate2048: u32, number: u32, octets: &[u8]) -> Result<(), RunFault
     Ok(())
 }
 
-/// Judges transport blocks, given as octets and counted from 1, at the code rate `rate2048` / 2048.
+/// Checks transport blocks, given as octets and counted from 1, at the code rate `rate2048` / 2048.
 ///
 /// # Errors
-/// `Desk` of the first block that has no base graph or no plan.
+///
+/// `Desk` for the first block that has no base graph or cannot be segmented.
 pub fn judge(rate2048: u32, blocks: &[Vec<u8>]) -> Result<(), RunFault>
     requires few { length blocks.now ≤ 256 }
     requires sizes { All (λ block. IsBlockLength (length block.items)) blocks.now }
@@ -112,18 +114,19 @@ fn write_block<O: Sink>(
     write_planned(alloc, number, a, &plan, &attached, out)
 }
 
-/// Writes the text of `cut` for transport blocks, given as octets, which were judged at the code rate `rate2048` /
+/// Writes the text of `cut` for transport blocks, given as octets, that have been checked at the code rate `rate2048` /
 /// 2048. By TS 38.212, 6.2.1 to 6.2.3 and 7.2.1 to 7.2.3, it writes for each block, counted from 1,
 ///
 /// - `block <n> a <A> b <B> graph <1 or 2> c <C> l <L> kdash <K'> kb <Kb> z <Zc> set <set index> k <K> n <N>`;
 /// - `attached <n> <the B bits with the CRC>`;
 /// - `code <n> <r> <the K' bits>` for each code block r, counted from 0.
 ///
-/// Bits are written in lower-case hexadecimal digits, the last one filled with zero bits. Each line is written as
-/// soon as it is made, those of a block's code blocks all at once.
+/// Bits are written in lower-case hexadecimal digits, the last one padded with zero bits. Each line is written as soon
+/// as it is made, those of the code blocks of a block together.
 ///
 /// # Errors
-/// `Write` if a put failed, and `Memory` if a growth is refused. Then a first part of the text is written.
+///
+/// `Write` if a put failed, or `Memory` if memory runs out. A first part of the text is written then.
 pub fn write_blocks<O: Sink>(
     alloc: Global,
     rate2048: u32,

@@ -11,17 +11,18 @@ use nr_files::{BlocksFault, read_blocks};
 use nr_streams::{Sink, Source};
 use std::alloc::Global;
 
-/// Shows what TS 38.212 makes of each transport block of a blocks file, up to its code blocks (6.2.1 to 6.2.3,
-/// 7.2.1 to 7.2.3). `rate2048` is the code rate in 2048ths.
+/// Shows what TS 38.212 makes of each transport block of a blocks file, up to its code blocks (6.2.1 to 6.2.3, 7.2.1 to
+/// 7.2.3). `rate2048` is the code rate in 2048ths.
 ///
-/// The blocks file is read to its end, and every block is judged, before the first put. Then each line is written
-/// as soon as it is made, those of a block's code blocks all at once.
+/// The blocks file is read to its end, and every block is checked, before the first put. Then each line is written as
+/// soon as it is made, those of the code blocks of a block together.
 ///
 /// # Errors
-/// In this order: `Blocks`, the first fault of the blocks file; `Desk`, the first transport block that cannot be
-/// cut. If the rate is not in 1..=2048 that is the first block, by `Pick(RateRange)`. These leave the Sink as it was.
-/// `Write` if a put failed, and then a first part of the text is written. `Memory` if a growth is refused, and
-/// then nothing or a first part of the text is written.
+///
+/// In this order: `Blocks` with the first error of the blocks file; `Desk` with the first transport block that cannot
+/// be segmented, which is the first block, with `Pick(RateRange)`, if the rate is not within 1..=2048. After these the
+/// Sink is unchanged. `Write` if a put failed, after which a first part of the text is written. `Memory` if memory runs
+/// out, after which nothing or a first part of the text is written.
 pub fn cut<B: Source, O: Sink>(
     alloc: Global,
     rate2048: u32,

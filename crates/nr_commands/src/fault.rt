@@ -1,4 +1,4 @@
-//! Why a command is refused.
+//! The errors of the commands.
 
 ghost use Rattle.std.specs.Prelude.{◌≡◌};
 ghost use Rattle.nr_commands.specs.Faults.{blocks_refusal, schedule_refusal, settings_refusal, table_refusal};
@@ -10,22 +10,22 @@ use nr_transmission::DeskFault;
 use std::alloc::{AllocError, AllocFailed};
 use thiserror::Error;
 
-/// Why a command is refused. It is printed as what follows `linksim: refused: ` on standard error.
+/// Why a command fails. It prints as what follows `linksim: refused: ` on standard error.
 #[derive(Clone, Copy, Debug, PartialEq, Eq, Error)]
 pub enum RunFault {
-    /// The shift table file is refused.
+    /// The shift table file is rejected.
     #[error("table {0}")]
     Table(TableFault),
-    /// The settings file is refused.
+    /// The settings file is rejected.
     #[error("settings {0}")]
     Settings(SettingsFault),
-    /// The blocks file is refused.
+    /// The blocks file is rejected.
     #[error("blocks {0}")]
     Blocks(BlocksFault),
-    /// The schedule file is refused.
+    /// The schedule file is rejected.
     #[error("schedule {0}")]
     Schedule(ScheduleFault),
-    /// The transport block of this number, counted from 1, is refused.
+    /// The transport block of this number, counted from 1, is rejected.
     #[error("block {0} {1}")]
     Desk(u32, DeskFault),
     /// The output could not be written.

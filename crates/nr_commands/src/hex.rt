@@ -78,10 +78,11 @@ pub(crate) fn push_hex(line: &mut Vec<u8>, bits: &Bits) -> Result<(), AllocError
     Ok(())
 }
 
-/// A line: its head, then bits in hexadecimal digits, the first bit most significant, the last digit filled with
-/// zero bits. The room for the digits is asked for once.
+/// Returns a line: its head, then the bits in hexadecimal digits, the first bit most significant, the last digit padded
+/// with zero bits. The memory for the digits is allocated at once.
 ///
 /// # Errors
+///
 /// `AllocError` if memory runs out.
 pub fn hex_line(head: String, bits: &Bits) -> Result<Vec<u8>, AllocError>
     ensures { IfOk result

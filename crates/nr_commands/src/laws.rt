@@ -1,3 +1,4 @@
-//! The law of a crate below that a body calls. Such a call does nothing: it hands the body what the law says.
+//! The laws of lower crates that bodies call here. Such a call does nothing at run time: it makes the law known to the
+//! proof of the body.
 
 pub(crate) use nr_crcattach::attachment_lengthens;

@@ -1,9 +1,10 @@
-//! The two commands over one file. At `Ok` the text that `cut_said` or `check_said` gives of the file's octets was
-//! written. A refusal writes nothing, and the fault is theirs, unless memory ran out: then a first part may be written.
-//! A failing `Sink` has a first part (specs/Command.antt).
+//! The two commands over one file, `cut` and `check`. If a command returns Ok, it has written the text that `cut_said`
+//! or `check_said` defines for the file's octets. If it returns an error, that is the error they define and nothing was
+//! written, unless memory ran out or the `Sink` failed, after which a first part of the text may have been written
+//! (specs/Command.antt).
 //!
-//! Inside, `cut` shows what TS 38.212 makes of each transport block up to its code blocks (6.2.1 to 6.2.3, 7.2.1 to
-//! 7.2.3). `check` judges a shift table. `write_blocks` writes the lines of blocks, and `put_line` one.
+//! `cut` shows what TS 38.212 makes of each transport block up to its code blocks (6.2.1 to 6.2.3, 7.2.1 to 7.2.3).
+//! `check` checks a shift table. `write_blocks` writes the lines of blocks, and `put_line` a single line.
 #![tactic(auto)]
 
 mod check_lines;

@@ -1,4 +1,4 @@
-//! How the program ends: what it says, where, and with which status.
+//! How the program ends: what it writes, where, and with which status.
 
 ghost use Rattle.std.specs.Prelude.{◌≡◌, ◌==◌, ◌-◌, ◌^◌, ◌<◌, IfOk};
 ghost use Rattle.std.specs.List.{before_first};
@@ -17,16 +17,16 @@ use std::alloc::{AllocError, Global};
 pub enum Ending {
     /// The job is done: status 0.
     Done,
-    /// The words ask for help or the version, which goes to standard output: status 0.
+    /// Help or the version was asked for and goes to standard output: status 0.
     Help(String),
-    /// The job is refused, with a line on standard error: status 1.
+    /// The job failed, and a line on standard error says why: status 1.
     Refused(RunFault),
-    /// The words ask for no job, and the text, which goes to standard error, says why: status 2.
+    /// The command line asks for no job, and the text, which goes to standard error, says why: status 2.
     Usage(String),
 }
 
 impl Ending {
-    /// The exit status.
+    /// Returns the exit status.
     pub fn status(&self) -> u8
         ensures { result ≡ status_of self.now }
     {
@@ -67,9 +67,9 @@ impl From<Result<(), RunFault>> for Ending {
     }
 }
 
-/// Says how the program ends, and gives the exit status. Help goes to standard output, the line of a refusal and the
-/// text of a usage fault to standard error. Help that cannot be written is a refusal. If standard error fails too,
-/// only the status says it.
+/// Reports how the program ends and returns the exit status. Help goes to standard output; the line of an error and the
+/// text of a usage error go to standard error. If help cannot be written, that is an error too. If standard error fails
+/// as well, only the status reports it.
 pub fn finish<O: Sink, E: Sink + Complaints>(
     alloc: Global,
     ending: Ending,

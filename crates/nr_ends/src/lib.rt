@@ -1,8 +1,8 @@
-//! How a run of the program ends: what it says, where, and with which status. The status and the text are a stated
-//! function of how the run ends.
+//! How a run of the program ends: what it writes, where, and with which status. The status and the text are defined as
+//! a function of how the run ends.
 //!
-//! Inside are the Sources and the Sinks over files and standard streams. What the streams hold is not known. They keep
-//! the meaning of a Source and of a Sink.
+//! The crate also has the Sources and Sinks over files and standard streams, whose octets are not known to any
+//! contract.
 #![tactic(auto)]
 
 mod ending;

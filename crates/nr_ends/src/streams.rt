@@ -1,5 +1,5 @@
-//! The Source and the Sinks that the program runs its commands on: a file or standard input, standard output and standard
-//! error. What they hold is not known to any contract; what is proved is that they keep the meaning of a Source and of a
+//! The Source and the Sinks on which the program runs its commands: a file or standard input, standard output and
+//! standard error. What they hold is not known to any contract; what is proved is that they behave as a Source and as a
 //! Sink.
 
 ghost use Rattle.std.specs.Prelude.{◌≡◌};
@@ -24,8 +24,8 @@ enum Origin<F: Drop> {
 }
 
 /// A Source over a file or standard input, whose octets are not known. It is opened at its first pull and closed at its
-/// end, so that opening takes its place in the order of reading. Thus no two are open at a time if one is read to
-/// its end after another. A read that a signal interrupts is tried again.
+/// end, so that a file is opened when its turn comes, and no two are open at a time if each is read to its end before
+/// the next. A read that a signal interrupts is tried again.
 #[derive(Drop)]
 pub struct Incoming<'r, R: Files + Input> {
     rt: &'r R,
@@ -34,7 +34,7 @@ pub struct Incoming<'r, R: Files + Input> {
     failures: u64,
 }
 
-/// The Source of a path; `-` is standard input. One that cannot be opened is Broken at its first pull.
+/// Returns the Source of a path; `-` is standard input. If the file cannot be opened, the first pull returns `Broken`.
 pub fn source_of<'r, R: Files + Input>(rt: &'r R, path: &'r str) -> Incoming<'r, R>
     ensures { ⟦<Incoming<'r, R> as Source>⟧.failures result ≡ 0 }
 {
@@ -98,7 +98,8 @@ fn read_standard<R: Input>(rt: &R, buf: &mut [u8]) -> Result<usize, Broken>
 /// Reads once, and again if a signal interrupts the read.
 ///
 /// # Errors
-/// `Broken` if the read fails otherwise.
+///
+/// `Broken` if the read fails for another reason.
 pub fn read_some<I: Read>(input: &mut I, buf: &mut [u8]) -> Result<usize, Broken>
     ensures { ReadsAtMost result buf.new }
 {
@@ -112,7 +113,8 @@ pub fn read_some<I: Read>(input: &mut I, buf: &mut [u8]) -> Result<usize, Broken
     Err(Broken)
 }
 
-/// A Sink over standard output or standard error, whose octets are not known. A write that a signal interrupts is tried again.
+/// A Sink over standard output or standard error, whose octets are not known. A write that a signal interrupts is tried
+/// again.
 #[derive(Drop)]
 pub struct Outgoing<'r, R> {
     rt: &'r R,
@@ -120,7 +122,7 @@ pub struct Outgoing<'r, R> {
 }
 
 impl<'r, R: Print> Outgoing<'r, R> {
-    /// What `rt` prints to, with no failure yet.
+    /// Returns a Sink over what `rt` prints to, without a failure yet.
     pub fn new(rt: &'r R) -> Outgoing<'r, R>
         ensures { ⟦<Outgoing<'r, R> as Sink>⟧.failures result ≡ 0 }
     {
@@ -128,8 +130,8 @@ impl<'r, R: Print> Outgoing<'r, R> {
     }
 }
 
-/// What takes what the program complains of: standard error, or a Sink over memory in its place. Standard output is none, so
-/// that it cannot be taken for standard error.
+/// A Sink for error messages: standard error, or a Sink over memory in its place. Standard output does not implement
+/// it, so that the two cannot be exchanged by mistake.
 pub trait Complaints {}
 
 impl<'r> Complaints for Outgoing<'r, Stderr> {}

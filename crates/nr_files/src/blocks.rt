@@ -1,4 +1,4 @@
-//! The blocks file: one transport block a line, written in hexadecimal digits.
+//! The blocks file: one transport block per line, in hexadecimal digits.
 
 ghost use Rattle.std.specs.Prelude.{◌≡◌, ◌≢◌, ◌≤◌, ◌<◌, ◌+◌, ◌*◌, ◌/◌, ◌^◌, ◌++◌, IsTrue};
 ghost use Rattle.std.specs.Prelude.{IfErr, IfOk, IfSome, IsErrOf, All, map, length};
@@ -15,7 +15,7 @@ use std::alloc::{AllocError, Global};
 use std::simd::prelude::*;
 use thiserror::Error;
 
-/// The most octets of a blocks file.
+/// The largest size of a blocks file, in octets.
 pub const MOST_OCTETS: usize = 100_000_000;
 
 // How many octets are asked for at once.
@@ -32,7 +32,7 @@ const ODD: [usize; 16] = [1, 3, 5, 7, 9, 11, 13, 15, 17, 19, 21, 23, 25, 27, 29,
 // The most digits of a line: those of a transport block of 1,310,720 bits.
 const MOST_DIGITS: usize = 327_680;
 
-/// Why a blocks file is refused. Lines count from 1.
+/// Why a blocks file is rejected. Lines are counted from 1.
 #[derive(Clone, Copy, Debug, PartialEq, Eq, Error)]
 pub enum BlocksFault {
     /// The file could not be read.
@@ -47,10 +47,10 @@ pub enum BlocksFault {
     /// The file has more than 256 lines.
     #[error("TooMany")]
     TooMany,
-    /// The line has no character.
+    /// The line is empty.
     #[error("Blank {0}")]
     Blank(u32),
-    /// The line has a character that is no hexadecimal digit.
+    /// The line has a character that is not a hexadecimal digit.
     #[error("Digit {0}")]
     Digit(u32),
     /// The line has an odd number of digits.
@@ -177,15 +177,17 @@ fn block_of(alloc: Global, number: u32, line: &[u8]) -> Result<Vec<u8>, BlocksFa
     Ok(octets(alloc, line)?)
 }
 
-/// Reads a blocks file to its end: one transport block a line, two hexadecimal digits of either case for each octet.
+/// Reads a blocks file to its end: one transport block per line, with two hexadecimal digits of either case for each
+/// octet.
 ///
-/// Lines end with LF, and the last LF may be missing; one CR at a line's end is no part of it. Nothing after the
-/// last LF is no line. There are at most 256 blocks, each of 1..=163,840 octets.
+/// Lines end with LF, and the last LF may be missing. One CR at the end of a line is not part of it. There are at most
+/// 256 blocks, each of 1..=163,840 octets.
 ///
 /// # Errors
-/// `Read` if a pull failed and `TooLong` at more than 100,000,000 octets, whichever is met first. Then `Empty`; then
-/// line by line `TooMany` (line 257), `Blank`, `Digit`, `Odd`, `LongLine`. `Memory` as soon as a growth is refused: then
-/// no more is pulled.
+///
+/// `Read` if a pull failed or `TooLong` at more than 100,000,000 octets, whichever is met first; then `Empty`; then,
+/// line by line, `TooMany` (at line 257), `Blank`, `Digit`, `Odd`, `LongLine`. `Memory` as soon as memory runs out;
+/// nothing more is pulled then.
 pub fn read_blocks<B: Source>(alloc: Global, source: &mut B) -> Result<Vec<Vec<u8>>, BlocksFault>
     requires { B.failures source.old < 2 ^ 32 }
     ensures said { B.failures source.new ≡ B.failures source.old → IfSome (B.remaining source.old)

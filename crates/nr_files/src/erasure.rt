@@ -1,4 +1,5 @@
-//! The places of a transmission that the receiver does not receive: as a schedule names them, or as they are drawn.
+//! Which bits of a transmission are not received: those that a schedule lists, or those that are drawn at random. A
+//! place is the index of a bit among the G bits sent.
 
 ghost use Rattle.std.specs.Prelude.{◌≡◌, ℕ, ◌^◌, ◌<◌, ◌≤◌, length, map, slice_index, IfOk};
 ghost use Rattle.std.specs.List.{list_any, range_with_len};
@@ -14,12 +15,12 @@ use std::marker::Model;
 // At most this many ranges are marked in turn, each by words: no more work than place by place.
 const RANGES_BY_WORDS: usize = 64;
 
-/// The places from `first` to `last`, both of them too. Places are counted from 0.
+/// The places from `first` to `last` inclusive, counted from 0.
 #[derive(Clone, Copy, Debug, PartialEq, Eq)]
 pub struct PlaceRange {
     /// The first place.
     pub first: u64,
-    /// The last place. A range whose last place is less than its first has none.
+    /// The last place. If it is less than the first, the range is empty.
     pub last: u64,
 }
 
@@ -39,14 +40,14 @@ impl Model for PlaceList {
 }
 
 impl PlaceList {
-    /// These ranges.
+    /// Returns the list of these ranges.
     pub fn new(ranges: Vec<PlaceRange>) -> PlaceList
         ensures { result ≡ ranges.items }
     {
         PlaceList { ranges }
     }
 
-    /// The ranges.
+    /// Returns the ranges.
     pub fn ranges(&self) -> &[PlaceRange]
         ensures { result.now ≡ self.now }
     {
@@ -54,34 +55,35 @@ impl PlaceList {
     }
 }
 
-/// Which places of a transmission are meant.
+/// Some places of a transmission.
 #[derive(Drop)]
 pub enum Places {
-    /// None.
+    /// No place.
     Nothing,
     /// Every place.
     All,
-    /// The places in a range of the list.
+    /// The places in any range of the list.
     Listed(PlaceList),
 }
 
 /// Which places of a transmission are erased.
 #[derive(Drop)]
 pub enum Erasure {
-    /// Those that are named.
+    /// The places that are listed.
     Named(Places),
-    /// Those that are drawn: place m if the generator's word m, from 0, is below the threshold.
+    /// The places that are drawn: place m if word m of the generator, counted from 0, is below the threshold.
     Drawn {
-        /// What the generator starts from.
+        /// The seed of the generator.
         seed: u64,
         /// The least word that erases nothing.
         threshold: u32,
     },
 }
 
-/// For each of the first `count` places, at most 2^24, whether it is erased.
+/// Returns one bit for each of the first `count` places (at most 2^24), set if the place is erased.
 ///
 /// # Errors
+///
 /// `AllocError` if memory runs out.
 pub fn erased(alloc: Global, erasure: &Erasure, count: u32) -> Result<Bits, AllocError>
     requires { count ≤ 2 ^ 24 }
@@ -93,9 +95,10 @@ pub fn erased(alloc: Global, erasure: &Erasure, count: u32) -> Result<Bits, Allo
     }
 }
 
-/// For each of the first `count` places, at most 2^24, whether it is meant.
+/// Returns one bit for each of the first `count` places (at most 2^24), set if the place is among `places`.
 ///
 /// # Errors
+///
 /// `AllocError` if memory runs out.
 pub fn named(alloc: Global, places: &Places, count: u32) -> Result<Bits, AllocError>
     requires { count ≤ 2 ^ 24 }

@@ -1,10 +1,10 @@
-//! What the files of the commands say. `read_blocks`, `read_settings` and `read_schedule` read a file to its end. Their
-//! clause `said` gives `blocks_said`, `settings_said` and `schedule_said` of its octets (specs/), and the clause
-//! `pulled` a failed pull.
+//! The input files of the commands. `read_blocks`, `read_settings` and `read_schedule` read a file to its end. Their
+//! clause `said` defines the result as `blocks_said`, `settings_said` and `schedule_said` of the file's octets
+//! (specs/), and their clause `pulled` is about a failed pull.
 //!
-//! Inside are the formats of transport blocks, of settings, and of a schedule of transmissions. A schedule has the
-//! places that the link erases or flips, and the rounds of its HARQ processes. `csv` and `toml` read the files,
-//! `memchr` finds the ends of lines, and `thiserror` words the faults.
+//! The formats are those of transport blocks, of settings, and of a schedule of transmissions, which also says which
+//! bits the link erases or flips and to which HARQ process each transmission belongs. `csv` and `toml` read the files,
+//! `memchr` finds the ends of lines, and `thiserror` words the errors.
 #![tactic(auto)]
 
 mod blocks;

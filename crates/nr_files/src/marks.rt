@@ -1,4 +1,4 @@
-//! Marks of places as lists of bits, made by words.
+//! Marks of places as lists of bits, written a word at a time.
 
 ghost use Rattle.std.specs.Prelude.{◌≡◌, ℕ, ◌+◌, ◌^◌, ◌≤◌, ◌&&◌, ◌||◌, nat_le, nat_lt, true, length};
 ghost use Rattle.std.specs.Prelude.{take, drop, replicate, IfOk};

@@ -1,4 +1,4 @@
-//! What a field of the schedule says of places: place lists, erasures, and the code blocks that are scheduled.
+//! The fields of a schedule that list places: place lists, erasures, and the code blocks that are scheduled.
 
 ghost use Rattle.std.specs.Prelude.{◌≡◌, ◌==◌, ◌≤◌, IfOk, IfSome, length, option_map};
 ghost use Rattle.std.specs.List.{position};
@@ -29,7 +29,8 @@ fn first_place(text: &[u8], separator: u8) -> Option<usize>
     text.iter().position(|octet| *octet == separator)
 }
 
-/// The number of at most 32 bits that 1 to 10 decimal digits write, leading zeros included; `None` at any other text.
+/// Returns the number of at most 32 bits that 1 to 10 decimal digits write, leading zeros included, or `None` for any
+/// other text.
 pub(crate) fn short_word(text: &[u8]) -> Option<u32>
     ensures { result ≡ below 4294967296 (short_number text.now) }
 {
@@ -96,12 +97,13 @@ fn place_list(alloc: Global, text: &[u8]) -> Result<Option<PlaceList>, AllocErro
     Ok(Some(PlaceList::new(ranges)))
 }
 
-/// The places that a field names: none by `-`, all by `all`, or those of a place list. A list is one or more items with
-/// one space between them. An item is a place `m`, or a range `m-n` with m at most n. Places count from 0, and each
-/// number has 1 to 10 decimal digits. `None` at any other text.
+/// Returns the places that a field lists, or `None` if the field is neither `-` (no place), `all`, nor a place list. A
+/// list has one or more items separated by one space. An item is a place `m`, or a range `m-n` with m at most n. Places
+/// are counted from 0, and each number has 1 to 10 decimal digits.
 ///
 /// # Errors
-/// `AllocError` if a growth is refused.
+///
+/// `AllocError` if memory runs out.
 #[tactic(auto, unfolding(crate::specs::PlaceLists::places_of))]
 pub fn places_of(alloc: Global, text: &[u8]) -> Result<Option<Places>, AllocError>
     ensures { IfOk result (λ places. places ≡ places_of text.now) }
@@ -118,11 +120,12 @@ pub fn places_of(alloc: Global, text: &[u8]) -> Result<Option<Places>, AllocErro
     }
 }
 
-/// The erasure that a field says: `pcg:seed:threshold`, or the places that it names, as `places_of` reads them. The
-/// seed has 64 bits in 1 to 20 decimal digits, the threshold 32 bits in 1 to 10. `None` at any other text.
+/// Returns the erasure that a field describes: `pcg:seed:threshold`, or places as `places_of` reads them. The seed has
+/// 64 bits in 1 to 20 decimal digits, the threshold 32 bits in 1 to 10. For any other text the result is `None`.
 ///
 /// # Errors
-/// `AllocError` if a growth is refused.
+///
+/// `AllocError` if memory runs out.
 #[tactic(auto, unfolding(crate::specs::PlaceLists::erasure_of))]
 pub fn erasure_of(alloc: Global, text: &[u8]) -> Result<Option<Erasure>, AllocError>
     ensures { IfOk result (λ erasure. erasure ≡ erasure_of text.now) }
@@ -146,11 +149,13 @@ fn drawn_of(text: &[u8]) -> Option<Erasure>
     Some(Erasure::Drawn { seed, threshold })
 }
 
-/// The code blocks that a field schedules (TS 38.212, 5.4.2.1): all by `all`, or those of a place list as `places_of`
-/// reads it. They are counted from 0; those from 384 on name none. `None` at any other text, `-` too.
+/// Returns the code blocks that a field schedules (TS 38.212, 5.4.2.1): all of them for `all`, or those of a place list
+/// as `places_of` reads it, counted from 0; numbers from 384 on are ignored. For any other text, `-` among them, the
+/// result is `None`.
 ///
 /// # Errors
-/// `AllocError` if a growth is refused.
+///
+/// `AllocError` if memory runs out.
 #[tactic(auto, unfolding(crate::specs::Masks::mask_of))]
 pub fn mask_of(alloc: Global, text: &[u8]) -> Result<Option<Mask>, AllocError>
     ensures said { IfOk result (λ mask. mask ≡ mask_of text.now) }

@@ -1,5 +1,6 @@
-//! Which round each HARQ process is in after some transmissions, and whether later ones go on with it. `Earlier` keeps
-//! it while the records of a schedule are read.
+//! Which round each HARQ process is in after some transmissions, and whether later ones continue it. A round is what a
+//! process receives from one new-data indicator to the next. `Earlier` keeps the rounds while the records of a schedule
+//! are read.
 
 ghost use Rattle.std.specs.Prelude.{◌≡◌, ◌==◌, ◌&&◌, if◌then◌else◌, Some};
 ghost use Rattle.std.specs.Option.{option_or};
@@ -13,13 +14,14 @@ pub(crate) use earlier::Earlier;
 /// The round that a process is in after some transmissions.
 #[derive(Drop)]
 pub struct Round<'s> {
-    /// The transport block that its first transmission names; `None` if the process is in no round.
+    /// The transport block that its first transmission names, or `None` if the process has no round.
     pub block: Option<u32>,
-    /// The transmissions from where it begins. Those of other processes are among them.
+    /// The transmissions from its beginning on, those of other processes included.
     pub transmissions: &'s [Transmission],
 }
 
-/// The round that a process is in after these transmissions. If none of its transmissions is fresh, it begins with them.
+/// Returns the round that a process is in after these transmissions. If none of them has new data for the process, the
+/// round begins with the first of them.
 pub fn round_of(process: u32, before: &[Transmission]) -> Round<'_>
     ensures block { result.block ≡ first_block (round_of process before.now) }
     ensures transmissions { of_process process result.transmissions.now ≡ round_of process before.now }
@@ -56,10 +58,10 @@ fn next_begun(
     (begun.0, begun.1.or(Some(transmission.block)))
 }
 
-/// Whether one of these later transmissions goes on with the round that a process is in.
+/// Returns whether one of these later transmissions continues the round that a process is in.
 ///
-/// The search stops at the process's next transmission. Called after each one of a schedule, it visits each at most once
-/// per process.
+/// The search ends at the next transmission of the process. If it is called after each transmission of a schedule, it
+/// visits each of them at most once per process.
 pub fn goes_on(process: u32, later: &[Transmission]) -> bool
     ensures { result ≡ goes_on process later.now }
 {

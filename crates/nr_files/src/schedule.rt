@@ -1,4 +1,4 @@
-//! The schedule file: what it says, and why it is refused. Each record has one transmission.
+//! The schedule file, with one transmission per record, and the reasons why it is rejected.
 
 ghost use Rattle.std.specs.Prelude.{◌≡◌, ◌^◌, ◌<◌, ◌≤◌, true, All, IfOk, IfSome, IsErrOf, length, map};
 ghost use Rattle.std.specs.List.{range_with_len};
@@ -22,10 +22,10 @@ use thiserror::Error;
 // The most octets of a schedule file.
 const MOST_OCTETS: usize = 16_777_216;
 
-/// How many HARQ processes a receiving end has (TS 38.214, 5.1).
+/// The number of HARQ processes of a receiver (TS 38.214, 5.1).
 pub const PROCESSES: u32 = 16;
 
-/// Why a schedule file is refused. Records count from 1, the header being record 1.
+/// Why a schedule file is rejected. Records are counted from 1, the header being record 1.
 #[derive(Clone, Copy, Debug, PartialEq, Eq, Error)]
 pub enum ScheduleFault {
     /// The file could not be read.
@@ -34,35 +34,35 @@ pub enum ScheduleFault {
     /// The file has more than 16,777,216 octets.
     #[error("TooLong")]
     TooLong,
-    /// The record has another number of fields than the header.
+    /// The record does not have as many fields as the header.
     #[error("Csv {0}")]
     Csv(u32),
-    /// Record 1 is missing, or is no header.
+    /// Record 1 is missing or is not a header.
     #[error("Header")]
     Header,
-    /// One of the record's five numbers is not 1 to 10 decimal digits, or is greater than 4,294,967,295.
+    /// One of the record's five numbers is not 1 to 10 decimal digits, or is above 4,294,967,295.
     #[error("Number {0}")]
     Number(u32),
-    /// The blocks file has no block of the record's number.
+    /// The blocks file does not have the block that the record names.
     #[error("Block {0}")]
     Block(u32),
-    /// The record's field `erase` says no erasure.
+    /// The record's field `erase` is not an erasure.
     #[error("Erase {0}")]
     Erase(u32),
     /// There are more than 4,096 transmissions.
     #[error("TooMany")]
     TooMany,
-    /// The record's field `flip` names no places.
+    /// The record's field `flip` does not list places.
     #[error("Flip {0}")]
     Flip(u32),
-    /// The record's field `mask` schedules no code blocks.
+    /// The record's field `mask` does not list code blocks.
     #[error("Mask {0}")]
     Mask(u32),
-    /// The record's field `process` is no number below 16.
+    /// The record's field `process` is not a number below 16.
     #[error("Process {0}")]
     Process(u32),
-    /// The record's field `fresh` is neither `0` nor `1`. Or it is `0`, and no fresh record of its process comes
-    /// before it, or the last of them names another block.
+    /// The record's field `fresh` (the new-data indicator) is neither `0` nor `1`; or it is `0`, but no record of its
+    /// process with `1` comes before it, or the last of these names another block.
     #[error("Fresh {0}")]
     Fresh(u32),
     /// Memory ran out.
@@ -92,38 +92,41 @@ impl<T: Drop> From<AllocFailed<T>> for ScheduleFault {
     }
 }
 
-/// A transmission of a transport block, as a record of the schedule says it.
+/// One transmission of a transport block, as a record of the schedule describes it.
 #[derive(Drop)]
 pub struct Transmission {
-    /// Its number, from 1: record 2 is transmission 1.
+    /// The number of the transmission, counted from 1: record 2 is transmission 1.
     pub number: u32,
-    /// The number of its transport block in the blocks file, from 1.
+    /// The number of the transport block in the blocks file, counted from 1.
     pub block: u32,
-    /// The numbers that it is sent with, and the code blocks that are scheduled.
+    /// The numbers with which it is sent, and the code blocks that are scheduled.
     pub tx: Tx,
-    /// The places that the receiver does not receive.
+    /// The places that are not received.
     pub erasure: Erasure,
     /// The places whose bits arrive flipped.
     pub flip: Places,
-    /// Its HARQ process, from 0 (TS 38.212, 7.3.1). If the schedule names none, block n has process n - 1 of its own.
+    /// The HARQ process, counted from 0 (TS 38.212, 7.3.1). If the schedule names none, block n has process n - 1 to
+    /// itself.
     pub process: u32,
-    /// Whether its process forgets what it received before. If the schedule does not say it, none is fresh.
+    /// Whether the transmission has new data, so that its process discards what it received before. If the schedule
+    /// does not say so, no transmission has.
     pub fresh: bool,
 }
 
-/// What a schedule says.
+/// What a schedule file says.
 #[derive(Drop)]
 pub struct Schedule {
-    /// Whether it names a HARQ process for each transmission.
+    /// Whether the file names a HARQ process for each transmission.
     pub by_process: bool,
     /// The transmissions, in their order.
     pub transmissions: Vec<Transmission>,
 }
 
-/// Reads a schedule file to its end, and judges it, for so many transport blocks.
+/// Reads a schedule file to its end and checks it against the number of transport blocks.
 ///
 /// # Errors
-/// `Read` if a pull fails and `TooLong` at more than 16,777,216 octets, whichever is met first; then those of
+///
+/// `Read` if a pull fails or `TooLong` at more than 16,777,216 octets, whichever is met first; then those of
 /// `parse_schedule`.
 pub fn read_schedule<S: Source>(
     alloc: Global,
@@ -156,18 +159,19 @@ pub fn read_schedule<S: Source>(
     parse_schedule(alloc, blocks, &octets)
 }
 
-/// Reads the text of a schedule file, for so many transport blocks.
+/// Reads the text of a schedule file for `blocks` transport blocks.
 ///
-/// Record 1 is the header `block,rv,g,qm,nl,erase`, perhaps with `flip`, then perhaps with `mask`, and then perhaps
-/// with both `process` and `fresh`. Each other record is a transmission, at most 4,096 of them, in their order. Spaces
-/// and tabs at both ends of a field are left out. `block` is the number of a block. `rv`, `g`, `qm` and `nl` are
-/// numbers of 32 bits, which are not judged here. `erase` is read by `erasure_of`, `flip` by `places_of` and `mask` by
-/// `mask_of`. `process` is a number below 16, and `fresh` `0` or `1`. Without these columns no place is flipped and all
-/// code blocks are scheduled. Each block has a process of its own, of which no record is fresh.
+/// Record 1 is the header `block,rv,g,qm,nl,erase`, optionally followed by `flip`, then optionally by `mask`, and then
+/// optionally by both `process` and `fresh`. Each other record is a transmission, and there are at most 4,096. Spaces
+/// and tabs at the ends of a field are ignored. `block` is the number of a block. `rv`, `g`, `qm` and `nl` are numbers
+/// of 32 bits, whose values are not checked here. `erase` is read by `erasure_of`, `flip` by `places_of` and `mask` by
+/// `mask_of`. `process` is a number below 16, and `fresh` is `0` or `1`. Without these columns no place is flipped, all
+/// code blocks are scheduled, and each block has a process to itself, without a new-data indicator.
 ///
 /// # Errors
-/// In this order: `TooLong`; `Header`; then record by record `Csv`, `TooMany`, `Number`, `Block`, `Erase`, `Flip`,
-/// `Mask`, `Process`, `Fresh`. `Memory` if a growth is refused.
+///
+/// In this order: `TooLong`; `Header`; then, record by record, `Csv`, `TooMany`, `Number`, `Block`, `Erase`, `Flip`,
+/// `Mask`, `Process`, `Fresh`. `Memory` if memory runs out.
 pub fn parse_schedule(alloc: Global, blocks: u32, text: &[u8]) -> Result<Schedule, ScheduleFault>
     ensures said { Gives ScheduleFault.Memory timetable_by result
         (schedule_said blocks text.now) }

@@ -1,4 +1,4 @@
-//! The settings file: the code rate and the limit of the buffer, as TOML text.
+//! The settings file: the code rate and the limit of the circular buffer, as TOML text.
 
 ghost use Rattle.std.specs.Prelude.{◌≡◌, ◌^◌, ◌<◌, option_map, IfSome, IsErrOf};
 ghost use Rattle.std.specs.{List.list_all, Map.keys_of, String.string_bytes};
@@ -13,10 +13,10 @@ use std::alloc::Global;
 use thiserror::Error;
 use toml::{Table, Value};
 
-/// The most octets of a settings file.
+/// The largest size of a settings file, in octets.
 pub const MOST_OCTETS: usize = 65_536;
 
-/// Why a settings file is refused.
+/// Why a settings file is rejected.
 #[derive(Clone, Copy, Debug, PartialEq, Eq, Error)]
 pub enum SettingsFault {
     /// The file could not be read.
@@ -28,16 +28,16 @@ pub enum SettingsFault {
     /// The text is not TOML.
     #[error("Toml")]
     Toml,
-    /// There is another key than `rate2048` and `lbrm`.
+    /// There is a key other than `rate2048` and `lbrm`.
     #[error("Unknown")]
     Unknown,
-    /// There is no `rate2048`.
+    /// The key `rate2048` is missing.
     #[error("Missing")]
     Missing,
     /// A value is not an integer.
     #[error("Kind")]
     Kind,
-    /// An integer is out of its range.
+    /// An integer is out of range.
     #[error("Range")]
     Range,
     /// Memory ran out.
@@ -105,12 +105,14 @@ fn settings_of(table: &Table) -> Result<Settings, SettingsFault>
     Ok(Settings { rate2048, lbrm })
 }
 
-/// Reads the text of a settings file: TOML with the integer `rate2048`, the target code rate times 2048, 1..=2048.
-/// Where the buffer is limited it has the integer `lbrm` too: TBS_LBRM in bits (TS 38.212, 5.4.2.1), 0..=4,294,967,295.
+/// Reads the text of a settings file: TOML with the integer `rate2048`, which is the target code rate times 2048,
+/// 1..=2048. If the circular buffer is limited, it also has the integer `lbrm`, which is TBS_LBRM in bits (TS 38.212,
+/// 5.4.2.1), 0..=4,294,967,295.
 ///
 /// # Errors
+///
 /// In this order: `TooLong`; `Toml`; `Unknown`; `Missing`; `Kind` and `Range` of `rate2048`; `Kind` and `Range` of
-/// `lbrm`. `Memory` if a growth is refused.
+/// `lbrm`. `Memory` if memory runs out.
 pub fn parse_settings(alloc: Global, text: &[u8]) -> Result<Settings, SettingsFault>
     ensures { Gives SettingsFault.Memory (λ settings. settings) result (settings_said text.now) }
 {
@@ -124,10 +126,11 @@ pub fn parse_settings(alloc: Global, text: &[u8]) -> Result<Settings, SettingsFa
     }
 }
 
-/// Reads a settings file to its end, and judges it.
+/// Reads a settings file to its end and checks it.
 ///
 /// # Errors
-/// Where they are met: `Read`, if a pull failed; `TooLong`. Then as [`parse_settings`].
+///
+/// `Read` if a pull failed or `TooLong`, whichever is met first; then those of [`parse_settings`].
 pub fn read_settings<S: Source>(alloc: Global, source: &mut S) -> Result<Settings, SettingsFault>
     requires { S.failures source.old < 2 ^ 32 }
     ensures said { S.failures source.new ≡ S.failures source.old → IfSome (S.remaining source.old)

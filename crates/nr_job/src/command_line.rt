@@ -1,4 +1,4 @@
-//! The command line: the job that its words ask for, by clap.
+//! The command line: the job that it asks for, as clap parses it.
 
 ghost use Rattle.std.specs.Prelude.{◌≡◌, ◌≢◌, ◌≤◌, [], map, slice_get, IfOk, IsOkUnless, MatchResult, Some};
 ghost use Rattle.std.specs.String.{string_bytes};
@@ -22,12 +22,13 @@ use std::alloc::{AllocError, Global};
 // The target code rate times 2048 if no words are given.
 const DEFAULT_RATE: u32 = 2048;
 
-/// The job that the program's words ask for. The words are those after the program's name; the first
-/// is the command. No words at all ask for `cut --rate 2048 --blocks -`.
+/// Returns the job that the arguments ask for. `words` are the arguments after the program's name, and the first of
+/// them is the command. No arguments at all ask for `cut --rate 2048 --blocks -`.
 ///
 /// # Errors
-/// `Help` if the words ask for help or the version, and `Usage` if they are no command of the
-/// program. `Memory` if memory runs out. What the texts say is clap's.
+///
+/// `Help` if the arguments ask for help or the version, `Usage` if they are not a command of the program, and `Memory`
+/// if memory runs out. Clap makes the texts that the first two carry.
 pub fn job(alloc: Global, words: &[String]) -> Result<Job, JobFault>
     ensures no_words { words.now ≡ [] → MatchResult result IsDefaultJob (λ e. e ≡ JobFault.Memory) }
     ensures words { words.now ≢ [] → IfOk result (IsJobOf (map string_bytes words.now)) }

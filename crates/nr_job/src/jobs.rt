@@ -6,10 +6,10 @@ ghost use Rattle.nr_job.specs.declared.jobs.JobFault.TheVariants.{Memory};
 use std::alloc::AllocError;
 use thiserror::Error;
 
-/// What a run of the program is to do. A path `-` is standard input.
+/// What a run of the program is to do. The path `-` is standard input.
 #[derive(Debug, PartialEq, Eq, Drop)]
 pub enum Job {
-    /// `cut`: the target code rate times 2048, in 1..2048, and the path of the blocks.
+    /// `cut`: the target code rate times 2048, in 1..=2048, and the path of the blocks.
     Cut(u32, String),
     /// `check`: the path of the shift table.
     Check(String),
@@ -34,16 +34,16 @@ pub struct Files {
     pub schedule: String,
 }
 
-/// Why the words ask for no job.
+/// Why the command line asks for no job.
 #[derive(Debug, PartialEq, Eq, Drop, Error)]
 pub enum JobFault {
-    /// The words are no command of the program. The text says why, and how it is used.
+    /// The command line is not one of the program. The text says why, and how the program is used.
     #[error("{0}")]
     Usage(String),
-    /// The words ask for help or the version, which the text is.
+    /// The command line asks for help or the version, which is the text.
     #[error("{0}")]
     Help(String),
-    /// No memory is left.
+    /// Memory ran out.
     #[error("out of memory")]
     Memory,
 }

@@ -1,8 +1,8 @@
-//! What the words of a command line ask the program for: one of five jobs over files, or help, or how it is used. An
-//! accepted job is the one that clap's function of the words gives, without a fault of clap's. If clap takes the words
-//! and they ask for a job, only running out of memory refuses them.
+//! What a command line asks the program for: one of five jobs over files, or help, or an explanation of how it is used.
+//! An accepted job is the one that clap's own function of the arguments gives, without an error of clap's. If clap
+//! accepts the arguments and they ask for a job, only running out of memory can prevent it.
 //!
-//! Inside are the commands with their options and the texts of their help. `clap` parses the command line.
+//! The crate has the commands with their options and the texts of their help. `clap` parses the command line.
 #![tactic(auto)]
 
 mod command_line;

@@ -26,15 +26,16 @@ use std::alloc::Global;
 /// Sends and receives each transmission of a schedule as `run` does, without a line. Then it writes for each transport
 /// block, counted from 1, a line for each of its code blocks, counted from 0:
 ///
-/// - `order <n> <r> <steps>`, if every position below K' is fixed: how many positions peeling fixed, which are
-///   those fixed but neither received nor fillers;
-/// - `stuck <n> <r> <count> <positions>`, if one is not: all positions that are not fixed, ascending. They are a
-///   stopping set, which is why peeling can't go on (TS 38.212, 5.3.2).
+/// - `order <n> <r> <steps>` if every position below K' is recovered, with the number of positions that peeling
+///   recovered: those that are known but were neither received nor are fillers;
+/// - `stuck <n> <r> <count> <positions>` if one is not, with all positions that are unknown, ascending. They are a
+///   stopping set, which is why peeling cannot go on (TS 38.212, 5.3.2).
 ///
-/// The four files are read to their ends and judged whole, in the order of the parameters, and then every transport
-/// block. All of this comes before the first put. Then each line is written as soon as it is made.
+/// All four files are read to their ends and checked, in the order of the parameters, and then every transport block,
+/// before the first put. Then each line is written as soon as it is made.
 ///
 /// # Errors
+///
 /// Those of `run`.
 pub fn audit<T: Source, S: Source, B: Source, D: Source, O: Sink>(
     alloc: Global,

@@ -1,4 +1,4 @@
-//! What the link makes of sent bits: it erases some, and flips others. A receiver takes what arrives.
+//! The link: some of the bits sent are erased and some are flipped, and a receiver takes what arrives.
 
 ghost use Rattle.std.specs.Prelude.{◌≡◌, ◌^◌, ◌≤◌, ◌++◌, [], ◌∷◌, not, length, map, IfOk, List, OnOk};
 ghost use Rattle.std.specs.List.{range_with_len};
@@ -29,8 +29,8 @@ pub(crate) fn arrival_of(
     Ok(Marks { heard, value })
 }
 
-// For each of the first `count` places, at most 2^24, whether it is not erased. If none is named, no list of erased
-// places is made. If some are, their list is negated in place.
+// Returns one bit for each of the first `count` places (at most 2^24), set if the place is not erased. Makes no list of
+// erased places if there are none; otherwise inverts that list in place.
 fn unerased(alloc: Global, erasure: &Erasure, count: u32) -> Result<Bits, AllocError>
     requires { count ≤ 2 ^ 24 }
     ensures { IfOk result (λ heard. heard.items

@@ -1,4 +1,4 @@
-//! What comes before a line: the process that it speaks of.
+//! The words before a line that name its process.
 
 ghost use Rattle.std.specs.{Prelude.IfOk, Prelude.◌≡◌, String.string_bytes};
 ghost use Rattle.nr_linkcommands.specs.RunLines.{head_of, process_words};
@@ -18,9 +18,10 @@ pub(crate) fn head_of(ready: &Ready, process: u32) -> Result<String, AllocError>
     }
 }
 
-/// What comes before each line about a round of a process.
+/// Returns the words that stand before each line about a round of a process.
 ///
 /// # Errors
+///
 /// `AllocError` if memory runs out.
 #[tactic(auto, unfolding(crate::specs::RunLines::process_words))]
 pub fn process_words(alloc: Global, process: u32) -> Result<String, AllocError>

@@ -1,4 +1,4 @@
-//! What the four files of a command over a schedule say, read and judged whole.
+//! The contents of the four files of a command over a schedule, read and checked.
 
 ghost use Rattle.std.{specs.Prelude.◌≤◌, specs.Prelude.All, specs.Prelude.length, proofs.Props.props};
 ghost use Rattle.nr_files.specs.{Blocks.IsBlockLength, Schedule.IsTimetable, Schedule.timetable_by};
@@ -11,12 +11,12 @@ use nr_files::Schedule;
 use nr_shifttable::Table;
 pub use reading::read_inputs;
 
-/// What the four files of a command over a schedule say.
+/// The contents of the four files of a command over a schedule.
 #[derive(Drop)]
 pub struct Inputs {
     /// The accepted shift table.
     pub table: Table,
-    /// The code rate and the limit of the buffer.
+    /// The code rate and the limit of the circular buffer.
     pub settings: Settings,
     /// The transport blocks as octets, in their order.
     pub blocks: Vec<Vec<u8>>,

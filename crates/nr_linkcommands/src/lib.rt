@@ -1,10 +1,11 @@
-//! The three commands over a schedule of transmissions (TS 38.212, 6.2 and 7.2). At `Ok` the text that `send_said`,
-//! `run_said` or `audit_said` gives of the four files' octets was written. A refusal writes nothing, and the fault is
-//! theirs. If memory ran out, or the `Sink` failed, a first part of the text may be written. By laws, over erasures
-//! only the block sent is delivered, and the lines of a process are its own.
+//! The three commands over a schedule of transmissions (TS 38.212, 6.2 and 7.2). If a command returns Ok, it has
+//! written the text that `send_said`, `run_said` or `audit_said` defines for the octets of the four files. If it
+//! returns an error, that is the error they define and nothing was written, unless memory ran out or the `Sink` failed,
+//! after which a first part of the text may have been written. By laws, a link that only erases never delivers a block
+//! other than the one sent, and the lines of a process depend on that process alone.
 //!
-//! Inside, `send` writes the bits sent, `run` what a receiver makes of them over a link that erases and flips bits, and
-//! `audit` why.
+//! `send` writes the bits sent, `run` what a receiver makes of them over a link that erases and flips bits, and `audit`
+//! why.
 #![tactic(auto)]
 
 mod audit_command;

@@ -1,5 +1,5 @@
-//! What the commands over a schedule have in common. Four files are read and judged whole, each transport block has a
-//! sender, and a text is written of both.
+//! What the commands over a schedule have in common: four files are read and checked, each transport block gets a
+//! sender, and a text is written about both.
 
 ghost use Rattle.std.specs.Prelude.{ℕ, List, All, IfErr, IfOk, Some, if◌then◌else◌, length, map, ◌+◌, ◌-◌};
 ghost use Rattle.std.specs.Prelude.{◌≡◌, ◌≢◌, ◌<◌, ◌≤◌, ◌^◌};
@@ -21,10 +21,11 @@ use nr_shifttable::Table;
 use nr_streams::{Sink, Source};
 use std::alloc::Global;
 
-/// What a command over four files works from: they are read and judged, and each transport block has a sender.
+/// What a command over four files works from: the files have been read and checked, and each transport block has a
+/// sender.
 #[derive(Drop)]
 pub(crate) struct Ready<'t> {
-    /// Where memory comes from.
+    /// The allocator.
     pub(crate) alloc: Global,
     /// The transmissions, in their order, and whether they name HARQ processes.
     pub(crate) schedule: &'t Schedule,
@@ -36,11 +37,12 @@ pub(crate) struct Ready<'t> {
 }
 
 impl<'t> Ready<'t> {
-    /// Makes a sender for each transport block of files read. Its octets are dropped, since its codewords have
-    /// them.
+    /// Makes a sender for each transport block. The octets of a block are freed, because its codewords contain them.
     ///
     /// # Errors
-    /// `Desk`, the first transport block that is refused, counted from 1, and why. `Memory` if a growth is refused.
+    ///
+    /// `Desk` with the number, counted from 1, of the first transport block that is rejected, and the reason. `Memory`
+    /// if memory runs out.
     pub(crate) fn new(
         alloc: Global,
         table: &'t Table,
@@ -64,7 +66,7 @@ impl<'t> Ready<'t> {
         })
     }
 
-    /// How many processes the schedule has: sixteen, or as many as there are blocks.
+    /// Returns how many processes the schedule has: sixteen, or as many as there are blocks.
     pub(crate) fn process_count(&self) -> u32
         ensures { result ≡ process_count self.now.schedule.now.by_process (length self.now.senders.items) }
     {
@@ -75,7 +77,7 @@ impl<'t> Ready<'t> {
         }
     }
 
-    /// The block of a process's round: the one that its first transmission names, or block n of process n - 1.
+    /// Returns the block of a process's round: the one that its first transmission names, or block n for process n - 1.
     pub(crate) fn block_of(&self, process: u32, named: Option<u32>) -> Option<u32>
         requires { process < 2 ^ 32 - 1 }
         ensures { result ≡ (if self.now.schedule.now.by_process then named else Some (process + 1)) }
@@ -134,15 +136,16 @@ fn sender<'t>(
     }
 }
 
-/// What a command says of its files once nothing in them is refused.
+/// The text that a command writes once its files are accepted.
 pub(crate) trait Text {
-    /// The text of a sender for each transport block, and of the schedule.
+    /// The text for a sender of each transport block, and the schedule.
     ghost text: { List SenderView → Timetable → List ℕ };
 
-    /// Writes the text, each line as soon as it is made, or with those that are made with it.
+    /// Writes the text, each line as soon as it is made, or together with those that are made with it.
     ///
     /// # Errors
-    /// `Write` if a put failed, and `Memory` if a growth is refused: then a first part of the text is written.
+    ///
+    /// `Write` if a put failed, or `Memory` if memory runs out. A first part of the text is written then.
     fn write<O: Sink>(ready: &Ready, out: &mut O) -> Result<(), RunFault>
         requires puts { O.failures out.old < 2 ^ 32 }
         ensures text { Writes (O.written out.old) (O.written out.new) result
@@ -150,10 +153,11 @@ pub(crate) trait Text {
         ensures put { FailsAs RunFault.Write result (O.failures out.old) (O.failures out.new) };
 }
 
-/// Reads the four files to their ends and judges them whole, in the order of the parameters. Then judges every transport
+/// Reads the four files to their ends and checks them, in the order of the parameters, then checks every transport
 /// block, and writes the text of the command `C`.
 ///
 /// # Errors
+///
 /// Those of `run`.
 pub(crate) fn over_files<C: Text, T: Source, S: Source, B: Source, D: Source, O: Sink>(
     alloc: Global,

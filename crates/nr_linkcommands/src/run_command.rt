@@ -20,21 +20,22 @@ use nr_streams::{Sink, Source};
 use std::alloc::{AllocError, Global};
 use walk::RunSlots;
 
-/// Carries the transport blocks of a blocks file over a link that loses bits as a schedule says. It writes a line for
-/// each transmission as `send` does. After each one that is sent it writes a line for each code block, with the number
-/// of positions that are not fixed yet. Then come a line for each transport block with what may be handed up of all
-/// that was received, and the totals.
+/// Sends the transport blocks of a blocks file over a link that erases and flips bits as a schedule says. For each
+/// transmission it writes a line as `send` does and, if the transmission was sent, a line for each code block with the
+/// number of positions that are still unknown. A line for each transport block with the outcome of everything received
+/// follows, and then the totals.
 ///
-/// The four files are read to their ends and judged whole, in the order of the parameters, and then every transport
-/// block. All of this comes before the first put. Then each line is written as soon as it is made, those of a
-/// transmission's code blocks all at once. Each block is encoded once. A receiver is made at the first transmission of
-/// its block, or of its process's round, that is not refused. It is freed after the last, so a schedule that goes
-/// block by block holds one at a time.
+/// All four files are read to their ends and checked, in the order of the parameters, and then every transport block,
+/// before the first put. Then each line is written as soon as it is made, those of the code blocks of a transmission
+/// together. Each block is encoded once. A receiver is made at the first transmission of its block, or of its process's
+/// round, that is not rejected, and freed after the last, so a schedule that goes block by block holds one at a time.
 ///
 /// # Errors
-/// In this order: `Table`, `Settings`, `Blocks`, `Schedule`, the first fault of a file; `Desk`, the first transport
-/// block that cannot be sent. These leave the Sink as it was. `Write` if a put failed, and then a first part of the
-/// text is written. `Memory` if a growth is refused, and then nothing or a first part of the text is written.
+///
+/// In this order: `Table`, `Settings`, `Blocks`, `Schedule` with the first error of a file; `Desk` with the first
+/// transport block that cannot be sent. After these the Sink is unchanged. `Write` if a put failed, after which a first
+/// part of the text is written. `Memory` if memory runs out, after which nothing or a first part of the text is
+/// written.
 pub fn run<T: Source, S: Source, B: Source, D: Source, O: Sink>(
     alloc: Global,
     table: &mut T,

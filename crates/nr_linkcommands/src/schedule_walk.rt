@@ -1,5 +1,5 @@
-//! How a command follows a schedule by its processes: HARQ processes, or one for each transport block. Each transmission
-//! comes in its turn, after the round that it ends, and at last come the rounds that none ends.
+//! How a command follows a schedule by its processes: HARQ processes, or one for each transport block. A transmission
+//! first ends the round before it, if it begins a new one, and the rounds that no transmission ends come last.
 
 ghost use Rattle.std.specs.Prelude.{Bool, List, OnOk, [], ◌∷◌, ◌++◌, false, if◌then◌else◌, length, ◌<◌};
 ghost use Rattle.std.specs.Prelude.{◌^◌, ◌≡◌, ◌≤◌};
@@ -16,18 +16,19 @@ use nr_commands::RunFault;
 use nr_files::Transmission;
 use nr_streams::Sink;
 
-/// What a command makes of transmissions and of rounds, and what it keeps from one to the next.
+/// What a command does with transmissions and rounds, and what it keeps from one to the next.
 pub(crate) trait Walk<'t> {
-    /// What the command says of a schedule that names processes, and of one that names none.
+    /// What the command writes for a schedule that names processes, and for one that names none.
     ghost words: { Bool → Words };
 
-    /// What is kept between these transmissions and those later, of which these rounds have ended.
+    /// What is kept between these transmissions, of which these rounds have ended, and the later ones.
     ghost Keeps: { Self → Ready → List Transmission → List Transmission → List ProcessRound → Type 0 };
 
-    /// Writes the lines of the round that a process is in after these transmissions, if it is in one, which ends.
+    /// Ends the round that a process is in after these transmissions, if it is in one, and writes its lines.
     ///
     /// # Errors
-    /// `Write` if a put failed, and `Memory` if a growth is refused: then a first part of the lines is written.
+    ///
+    /// `Write` if a put failed, or `Memory` if memory runs out. A first part of the lines is written then.
     fn end_round<O: Sink>(
         &mut self,
         ready: &Ready<'t>,
@@ -48,11 +49,12 @@ pub(crate) trait Walk<'t> {
             → Keeps self.new ready.now before.now later (ended ++ (process, round_of process before.now) ∷ [])) }
         ensures put { FailsAs RunFault.Write result (O.failures out.old) (O.failures out.new) };
 
-    /// Makes a transmission, which goes on with the round of its process or begins it, and writes its lines. Those
-    /// later say which rounds go on.
+    /// Makes a transmission, which continues or begins the round of its process, and writes its lines. `later`, the
+    /// transmissions after it, decide which rounds continue.
     ///
     /// # Errors
-    /// `Write` if a put failed, and `Memory` if a growth is refused: then a first part of the lines is written.
+    ///
+    /// `Write` if a put failed, or `Memory` if memory runs out. A first part of the lines is written then.
     fn transmit<O: Sink>(
         &mut self,
         ready: &Ready<'t>,
@@ -81,7 +83,8 @@ pub(crate) trait Walk<'t> {
 /// Makes the transmissions of a schedule, each after the round that it ends, and writes the lines of both.
 ///
 /// # Errors
-/// `Write` if a put failed, and `Memory` if a growth is refused: then a first part of the lines is written.
+///
+/// `Write` if a put failed, or `Memory` if memory runs out. A first part of the lines is written then.
 pub(crate) fn follow<'t, W: Walk<'t>, O: Sink>(
     ready: &Ready<'t>,
     walk: &mut W,
@@ -131,10 +134,11 @@ fn end_before<'t, W: Walk<'t>, O: Sink>(
     walk.end_round(ready, transmission.process, before, out)
 }
 
-/// Ends the rounds that no transmission ends, by process, and writes their lines.
+/// Ends the rounds that no transmission ends, in the order of their processes, and writes their lines.
 ///
 /// # Errors
-/// `Write` if a put failed, and `Memory` if a growth is refused: then a first part of the lines is written.
+///
+/// `Write` if a put failed, or `Memory` if memory runs out. A first part of the lines is written then.
 pub(crate) fn end_all<'t, W: Walk<'t>, O: Sink>(
     ready: &Ready<'t>,
     walk: &mut W,

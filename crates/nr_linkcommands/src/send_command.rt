@@ -1,4 +1,4 @@
-//! The command `send`, and its lines, each made once. `run` writes them too.
+//! The command `send`, and its lines, which `run` writes too.
 
 ghost use Rattle.std.specs.Prelude.{IfOk, IsErr, IsOk, length, ◌<◌, ◌^◌, ◌≡◌};
 ghost use Rattle.std.specs.{Option.option_map, Result.result_map_both, Result.result_ok};
@@ -20,17 +20,19 @@ use nr_streams::{Sink, Source};
 use std::alloc::{AllocError, Global};
 use std::fmt::Write;
 
-/// Encodes each transport block of a blocks file once (TS 38.212, 6.2.1 to 6.2.4 and 7.2.1 to 7.2.4). It writes a line
-/// for each transmission of a schedule. It has the bits that are sent (6.2.5, 6.2.6, 7.2.5 and 7.2.6), or the name of
-/// what refuses it.
+/// Encodes each transport block of a blocks file once (TS 38.212, 6.2.1 to 6.2.4 and 7.2.1 to 7.2.4), and writes a line
+/// for each transmission of a schedule: the bits that are sent (6.2.5, 6.2.6, 7.2.5 and 7.2.6), or the name of the
+/// error that rejects it.
 ///
-/// The four files are read to their ends and judged whole, in the order of the parameters, and then every transport
-/// block. All of this comes before the first put. Then each line is written as soon as it is made.
+/// All four files are read to their ends and checked, in the order of the parameters, and then every transport block,
+/// before the first put. Then each line is written as soon as it is made.
 ///
 /// # Errors
-/// In this order: `Table`, `Settings`, `Blocks`, `Schedule`, the first fault of a file; `Desk`, the first transport
-/// block that cannot be sent. These leave the Sink as it was. `Write` if a put failed, and then a first part of the
-/// text is written. `Memory` if a growth is refused, and then nothing or a first part of the text is written.
+///
+/// In this order: `Table`, `Settings`, `Blocks`, `Schedule` with the first error of a file; `Desk` with the first
+/// transport block that cannot be sent. After these the Sink is unchanged. `Write` if a put failed, after which a first
+/// part of the text is written. `Memory` if memory runs out, after which nothing or a first part of the text is
+/// written.
 pub fn send<T: Source, S: Source, B: Source, D: Source, O: Sink>(
     alloc: Global,
     table: &mut T,
@@ -109,10 +111,11 @@ pub(crate) fn write_sent<O: Sink>(
     }
 }
 
-/// What a sender says of a transmission: the bits, or why it is refused.
+/// Returns the bits of a transmission, or why it is rejected.
 ///
 /// # Errors
-/// `AllocError` if memory is refused to a transmission that is not.
+///
+/// `AllocError` if memory runs out for a transmission that is not rejected.
 pub(crate) fn bits_or_refusal(
     sender: &Sender,
     tx: &Tx,

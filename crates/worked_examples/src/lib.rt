@@ -1,8 +1,8 @@
-//! The worked cases of TS 38.212 and of this project's formats, each as a test of the call that it names. All wanted
-//! values come from the standard's text or were worked by hand, and none from these crates.
+//! The worked cases of TS 38.212 and of this project's formats, each as a test of the call that it names. All expected
+//! values come from the standard's text or were worked out by hand, and none from these crates.
 //!
-//! This is the one crate with tests, since a crate that has some is proved twice. Whatever is a text of a command is in
-//! `tests/program_tests`, over the built program.
+//! This is the only crate with tests, because a crate that has some is proved twice. The texts of commands are tested
+//! in `tests/program_tests`, with the built program.
 #![tactic(auto)]
 
 #[cfg(test)]

@@ -1,4 +1,4 @@
-//! The transport blocks of a blocks file, line by line as its text comes.
+//! Reads the transport blocks of a blocks file line by line, as the text arrives.
 
 ghost use Rattle.std.specs.Prelude.{◌≡◌, ◌≢◌, ◌≤◌, ◌==◌, ◌∷◌, ◌++◌, [], All, IfErr, IfOk, List};
 ghost use Rattle.std.specs.Prelude.{OnOk, Result, Some, false, length, map, ℕ};
@@ -10,7 +10,7 @@ use super::{BlocksFault, MOST_BLOCKS, block_of, strip_last};
 use memchr::memchr;
 use std::alloc::{AllocError, Global};
 
-/// What has come of a blocks file.
+/// What has been read of a blocks file so far.
 #[derive(Drop)]
 pub(crate) struct BlockReader {
     alloc: Global,
@@ -28,7 +28,7 @@ pub(crate) struct BlockReader {
 }
 
 impl BlockReader {
-    /// A reader of which no text has come.
+    /// Returns a reader that has read nothing.
     pub(crate) fn new(alloc: Global) -> BlockReader
         ensures { (more : List ℕ) → StateLeaves result.fault (said_behind [] (lines_in more))
             (said_behind (map (λ block. block.items) result.blocks.items)
@@ -42,10 +42,11 @@ impl BlockReader {
         }
     }
 
-    /// Takes the next piece of the text. After a fault nothing of it is read.
+    /// Reads the next piece of the text. After an error in the text, further pieces are ignored.
     ///
     /// # Errors
-    /// A growth was refused.
+    ///
+    /// `AllocError` if memory runs out.
     pub(crate) fn push(&mut self, piece: &[u8]) -> Result<(), AllocError>
         ensures { OnOk result ((said : Result (List (List ℕ)) BlocksFault) (more : List ℕ)
             → StateLeaves self.old.fault said
@@ -65,10 +66,11 @@ impl BlockReader {
         Ok(())
     }
 
-    /// The blocks of the whole text. What comes after its last line feed is a line too.
+    /// Returns the blocks of the whole text. What follows the last line feed is a line too.
     ///
     /// # Errors
-    /// The first fault, as `end_line` gives it.
+    ///
+    /// The first error, as `end_line` returns it.
     pub(crate) fn finish(mut self) -> Result<Vec<Vec<u8>>, BlocksFault>
         ensures said { (said : Result (List (List ℕ)) BlocksFault) → StateLeaves self.fault said
             (said_behind (map (λ block. block.items) self.blocks.items) (lines_in self.line.items))

@@ -1,4 +1,4 @@
-//! The transmissions of the records so far, with the round that each HARQ process is in after them.
+//! The transmissions of the records so far, and the round in which each HARQ process is after them.
 
 ghost use Rattle.std.specs.Prelude.{ℕ, ◌≡◌, ◌<◌, ◌++◌, [], ◌∷◌, None, OnOk, slice_index_or};
 ghost use Rattle.nr_files.specs.Rounds.{fresh_block, round_of};
@@ -18,7 +18,7 @@ pub(crate) struct Earlier {
 }
 
 impl Earlier {
-    /// No transmission.
+    /// Returns a list without transmissions.
     pub(crate) fn new(alloc: Global) -> Earlier
         ensures { result.transmissions.items ≡ [] }
     {
@@ -31,6 +31,7 @@ impl Earlier {
     /// Adds the next transmission.
     ///
     /// # Errors
+    ///
     /// `AllocError` if memory runs out.
     pub(crate) fn push(&mut self, transmission: Transmission) -> Result<(), AllocError>
         ensures { OnOk result (self.new.transmissions.items
@@ -48,7 +49,7 @@ impl Earlier {
         Ok(())
     }
 
-    /// The block of the last fresh transmission of a process below 16, if it has one.
+    /// Returns the block of the last new-data transmission of a process below 16, if it has one.
     pub(crate) fn fresh_block(&self, process: u32) -> Option<u32>
         ensures { process < 16
             → result ≡ fresh_block (round_of process self.now.transmissions.items) }

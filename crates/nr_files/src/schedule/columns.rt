@@ -17,7 +17,7 @@ const NAMES: [&[u8]; 10] = [
 // How many columns a schedule may have: the first of them.
 const WIDTHS: [usize; 4] = [6, 7, 8, 10];
 
-/// Whether a record is a header: the first 6, 7, 8 or 10 of the names.
+/// Returns whether a record is a header: the first 6, 7, 8 or 10 of the names.
 #[tactic(auto, unfolding(crate::specs::Columns::is_schedule_header))]
 pub(crate) fn is_header(row: &ByteRecord) -> bool
     ensures { result ≡ is_schedule_header (fields_of row.now) }
@@ -35,8 +35,8 @@ fn begins_names(row: &ByteRecord) -> bool
         .all(|(field, name)| stripped(field) == *name)
 }
 
-/// A record's field in the column of this name, without the blanks at both its ends; `None` if there is no such
-/// column.
+/// Returns the field of a record in the column of this name, without spaces and tabs at its ends, or `None` if there is
+/// no such column.
 pub(crate) fn field<'a>(row: &'a ByteRecord, name: &[u8]) -> Option<&'a [u8]>
     ensures { option_map (λ field. field.now) result ≡ field (fields_of row.now) name.now }
 {
@@ -51,7 +51,7 @@ fn place_of(name: &[u8]) -> Option<usize>
     NAMES.iter().position(|column| name == *column)
 }
 
-/// Whether there is a column of this name.
+/// Returns whether there is a column of this name.
 pub(crate) fn has_column(row: &ByteRecord, name: &[u8]) -> bool
     ensures { result ≡ has_column (fields_of row.now) name.now }
 {

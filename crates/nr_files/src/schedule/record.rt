@@ -1,4 +1,4 @@
-//! A record of a schedule: what its field in each column says, and the transmission of them.
+//! A record of a schedule: what the field in each column says, and the transmission that they make.
 
 ghost use Rattle.std.specs.Prelude.{◌≡◌, ◌≤◌};
 ghost use Rattle.csv.specs.Records.{fields_of};
@@ -43,11 +43,13 @@ struct Harq {
     fresh: bool,
 }
 
-/// What the record of this number says, in a schedule of so many columns, after the transmissions of the records before it.
+/// Returns the transmission of the record with this number, in a schedule with this many columns, after the
+/// transmissions of the records before it.
 ///
 /// # Errors
-/// In this order: `Csv`, `TooMany`, `Number`, `Block`, `Erase`, `Flip`, `Mask`, `Process`, `Fresh`. `Memory` if a growth
-/// is refused.
+///
+/// In this order: `Csv`, `TooMany`, `Number`, `Block`, `Erase`, `Flip`, `Mask`, `Process`, `Fresh`. `Memory` if memory
+/// runs out.
 #[tactic(auto, unfolding(crate::specs::Schedule::transmission_of))]
 pub(crate) fn transmission_of(
     alloc: Global,

@@ -1,4 +1,4 @@
-//! What clap is told of the program and of each command.
+//! The description of the program and of each command, for clap.
 
 ghost use Rattle.std.specs.Prelude.{◌≡◌, false, IfOk};
 ghost use Rattle.clap.specs.Words.{App, app_of, new_app, rule_of, with_rule};
@@ -10,30 +10,31 @@ use super::texts::{
 use clap::{Arg, Command, value_parser};
 use std::alloc::{AllocError, Global};
 
-const VERSION: &str = "0.3.0";
+const VERSION: &str = "0.3.0-dev";
 
-const ABOUT: &str = "The data coding chain of 5G NR (3GPP TS 38.212)
-Without words it reads transport blocks from standard input, and at a terminal waits for them.";
+const ABOUT: &str =
+    "The data coding chain of 5G NR (3GPP TS 38.212): CRC, segmentation, LDPC, rate matching, HARQ
+With no arguments, linksim reads transport blocks from standard input.";
 
-// The ends of a command's help and of its long help: what is refused beside its files, an example, and the exit statuses.
+// The ends of a command's help and of its long help: errors that are not those of its files, an example, and the exit statuses.
 macro_rules! closings {
     ($example:literal) => {
         (
             concat!(
                 "Example:\n  ",
                 $example,
-                "\n\nExit status: 0 done, 1 refused, 2 wrong usage"
+                "\n\nExit status: 0 on success, 1 on an error, 2 on wrong usage"
             ),
             concat!(
-                "Refused with status 1, by 'linksim: refused:' and\n  output Write  standard output failed; see whether the disk is full, or the reader of the pipe has gone\n  memory        the system gave no memory; give the program more; docs/performance.md says how much it takes\n\nExample:\n  ",
+                "Fails with status 1 and 'linksim: refused:' followed by\n  output Write  standard output failed; check whether the disk is full or the reader of the pipe has ended\n  memory        memory could not be allocated; give the program more (docs/performance.md says how much it needs)\n\nExample:\n  ",
                 $example,
-                "\n\nExit status: 0 done, 1 refused, 2 wrong usage"
+                "\n\nExit status: 0 on success, 1 on an error, 2 on wrong usage"
             ),
         )
     };
 }
 
-// The whole program, for its help and for the faults of words that begin with no command.
+// The whole program, for its help and for the errors of arguments that do not begin with a command.
 pub(super) fn program<'a>(alloc: Global) -> Result<Command<'a>, AllocError> {
     let program = with_command(bare_program(alloc), Name::Cut.command(alloc));
     let program = with_command(program, Name::Check.command(alloc));
@@ -49,7 +50,9 @@ fn bare_program<'a>(alloc: Global) -> Result<Command<'a>, AllocError> {
             .bin_name("linksim")?
             .about(ABOUT)
             .after_help(
-                "No words at all ask for 'linksim cut --rate 2048 --blocks -'.\n\nExit status: 0 done, 1 refused, 2 wrong usage",
+                "With no arguments, linksim does what 'linksim cut --rate 2048 --blocks -' does.
+
+Exit status: 0 on success, 1 on an error, 2 on wrong usage",
             )
             .version(VERSION)
             .no_binary_name(true)
@@ -134,16 +137,16 @@ impl Name {
     // What it does.
     fn about<'a>(self) -> &'a str {
         match self {
-            Name::Cut => "Attaches the CRC to each transport block and cuts it into code blocks",
-            Name::Check => "Checks a table of shift values",
+            Name::Cut => "Attach the CRC to each transport block and segment it into code blocks",
+            Name::Check => "Check a table of shift values",
             Name::Send => {
-                "Encodes each transport block and writes the bits of each transmission of a schedule"
+                "Encode each transport block and write the bits of each transmission of a schedule"
             }
             Name::Run => {
-                "Sends and receives the transmissions of a schedule over a link that loses bits, and says what is delivered"
+                "Send and receive the transmissions of a schedule over a link that loses bits, and show what is delivered"
             }
             Name::Audit => {
-                "Says of each code block after a schedule in how many steps it is fixed, or why it is stuck"
+                "Show, for each code block, how many decoding steps recovered it or which stopping set blocks it"
             }
         }
     }
@@ -233,5 +236,5 @@ fn rate_option<'a>(alloc: Global) -> Arg<'a>
         .value_name("N")
         .value_parser(value_parser!(u32).range(1..=2048))
         .default_value("2048")
-        .help("Twice the target code rate x 1024 of the MCS tables; 0.5 is 1024")
+        .help("The target code rate in 2048ths, twice that of the MCS tables; 0.5 is 1024")
 }

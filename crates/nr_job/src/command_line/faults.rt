@@ -1,4 +1,4 @@
-//! The faults of the words, in clap's form.
+//! Errors of the command line, in clap's form.
 
 ghost use Rattle.std.specs.Prelude.{◌≡◌};
 ghost use Rattle.clap.specs.Words.{kind_of};

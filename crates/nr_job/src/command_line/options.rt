@@ -1,4 +1,4 @@
-//! What clap reads of the words, and the values of the options in it.
+//! What clap reads of the command line, and the values of the options in it.
 
 ghost use Rattle.std.specs.Prelude.{◌≡◌, ◌≤◌, ◌↔◌, IsTrue, ℕ, true, [], codes, map, IfOk, IsOkUnless, OnOk};
 ghost use Rattle.std.specs.String.{string_bytes};

@@ -1,4 +1,4 @@
-//! The lines of `audit`, each made once.
+//! The lines that `audit` writes.
 
 ghost use Rattle.std.specs.{Prelude.IfOk, Prelude.◌++◌, Prelude.◌<◌, Prelude.◌≡◌, String.string_bytes};
 ghost use Rattle.nr_linkcommands.specs.AuditLines.{audit_line, order_line, stuck_line};

@@ -1,4 +1,4 @@
-//! What a receiver has received after the transmissions of a schedule, sent without a line.
+//! Sends and receives the transmissions of a round again, without writing a line, to find what its receiver knows.
 
 ghost use Rattle.std.specs.Prelude.{IfOk, List, OnOk, [], ◌++◌, ◌+◌, ◌∷◌, ◌≡◌};
 ghost use Rattle.nr_linkcommands.specs.{inside.Receptions.HasHeard, RunText.receptions_of, RunText.received_of};

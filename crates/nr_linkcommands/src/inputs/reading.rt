@@ -1,4 +1,4 @@
-//! How the four files of a command over a schedule are read and judged.
+//! Reads and checks the four files of a command over a schedule.
 
 ghost use Rattle.std.specs.Prelude.{◌≡◌, ◌≢◌, ◌^◌, ◌<◌, ◌≤◌, All, length, IfOk, IfErr, IfSome, Err};
 ghost use Rattle.nr_refusal.specs.Refusal.{Gives, FailsAs};
@@ -17,12 +17,12 @@ use nr_shifttable::{Table, TableFault};
 use nr_streams::Source;
 use std::alloc::Global;
 
-/// Reads the four files of a command over a schedule, each to its end, and judges them, in the order of the
-/// parameters.
+/// Reads the four files of a command over a schedule, each to its end, and checks them, in the order of the parameters.
 ///
 /// # Errors
-/// In this order: `Table`, `Settings`, `Blocks`, `Schedule`, each with the first fault of its file. A file after one
-/// that is refused is not read. `Memory` if a growth is refused.
+///
+/// In this order: `Table`, `Settings`, `Blocks`, `Schedule`, each with the first error of its file. The files after one
+/// that is rejected are not read. `Memory` if memory runs out.
 pub fn read_inputs<T: Source, S: Source, B: Source, D: Source>(
     alloc: Global,
     table: &mut T,

@@ -1,4 +1,4 @@
-//! How the transport blocks of a run end, or its rounds: their lines, and the totals.
+//! How the transport blocks of a run, or its rounds, end: their lines and the totals.
 
 ghost use Rattle.std.specs.Prelude.{IfOk, IfSome, List, [], Some, false, if◌then◌else◌, length, ℕ, ◌+◌, ◌-◌};
 ghost use Rattle.std.specs.Prelude.{◌++◌, ◌<◌, ◌^◌, ◌≡◌, ◌≤◌};
@@ -18,24 +18,24 @@ use nr_blockdesk::{Outcome, Sender};
 use nr_commands::{RunFault, put_line};
 use nr_streams::Sink;
 
-/// How transport blocks end.
+/// Counts of how transport blocks end.
 #[derive(Clone, Copy, Debug, PartialEq, Eq)]
 pub struct Totals {
-    /// The transport blocks.
+    /// All transport blocks.
     pub blocks: u64,
     /// Those that are delivered.
     pub delivered: u64,
-    /// Those that are open.
+    /// Those that are open, that is, undecided.
     pub open_still: u64,
-    /// Those that nothing explains.
+    /// Those that are a contradiction: no block is consistent with what was received.
     pub contradiction: u64,
     /// Their code blocks.
     pub code_blocks: u64,
-    /// The code blocks of open transport blocks that have a position below K' that isn't fixed.
+    /// The code blocks of open transport blocks that have an unknown position below K'.
     pub failed: u64,
 }
 
-/// No transport block, and no round.
+/// Returns the totals before any transport block or round has ended.
 pub fn no_totals() -> Totals
     ensures value { result ≡ totals_of [] }
     ensures none { IsWithin 0 result }
@@ -50,7 +50,7 @@ pub fn no_totals() -> Totals
     }
 }
 
-/// The totals with one more transport block or round.
+/// Returns the totals with one more transport block or round.
 pub fn counted(totals: Totals, sender: &Sender, summary: &Option<RxSummary>) -> Totals
     requires few { IsWithin 65535 totals }
     ensures value { (list : List Reception) → HoldsSummary sender.now.link list summary.now

@@ -1,4 +1,4 @@
-//! The lines of `run`, but those that it shares with `send`.
+//! The lines of `run`, except for those that it shares with `send`.
 
 ghost use Rattle.std.specs.{Prelude.IfOk, Prelude.List, Prelude.◌++◌, Prelude.◌+◌, Prelude.◌≡◌, String.string_bytes};
 ghost use Rattle.nr_linkcommands.specs.RunLines.{contradiction_line, delivered_line, head_of, last_line, left_lines, open_line};

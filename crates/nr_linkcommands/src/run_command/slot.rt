@@ -1,4 +1,4 @@
-//! A slot of a run: what the receiver of a transport block has received, and what is kept of it.
+//! A slot of a run: what the receiver of a transport block has received, and what remains of it afterwards.
 
 ghost use Rattle.std.specs.Prelude.{◌≡◌, ◌+◌, ◌-◌, ◌^◌, ◌<◌, ◌≤◌, ◌++◌, [], ◌∷◌, List};
 ghost use Rattle.std.specs.Prelude.{length, replicate, true, IfOk, OnOk};
@@ -12,42 +12,42 @@ use nr_bitvec::Marks;
 use nr_blockdesk::{Outcome, Receiver, Sender, Tx, Unrecorded};
 use std::alloc::{AllocError, Global};
 
-/// The receiver of a transport block with what it made of all that was received. It is made once something is.
+/// The receiver of a transport block with what it found, which exists once something has been received.
 #[derive(Drop)]
 pub struct RxState<'t> {
     /// The receiver.
     pub receiver: Receiver<'t, Unrecorded>,
-    /// What may be handed up of it.
+    /// The outcome of everything received so far.
     pub outcome: Outcome,
     /// How many transmissions were received.
     pub count: u64,
 }
 
-/// What is kept of a receiver's state after the last reception.
+/// What remains of a receiver's state after the last transmission of its round.
 #[derive(Drop)]
 pub struct RxSummary {
-    /// What may be handed up of all that was received.
+    /// The outcome of everything received.
     pub outcome: Outcome,
     /// How many transmissions were received.
     pub count: u64,
-    /// How many code blocks have a position below K' that isn't fixed.
+    /// How many code blocks have an unknown position below K'.
     pub failed: u32,
 }
 
-/// A slot of a run: that of a transport block, or of a HARQ process. It has a receiver from the first transmission that is
-/// received to the last one.
+/// The slot of a transport block or of a HARQ process. It has a receiver from the first transmission that is received
+/// to the last one.
 #[derive(Drop)]
 pub struct Slot<'t> {
-    /// The transport block of the round that it is in, once a transmission named it.
+    /// The transport block of the current round, once a transmission named it.
     pub block: Option<u32>,
-    /// The receiver's state, while later transmissions go on with it.
+    /// The receiver's state, while later transmissions continue the round.
     pub state: Option<RxState<'t>>,
-    /// What is kept of it after the last one.
+    /// What remains of it after the last one.
     pub summary: Option<RxSummary>,
 }
 
 impl<'t> Slot<'t> {
-    /// A slot that is in no round.
+    /// Returns a slot without a round.
     pub fn new() -> Slot<'t>
         ensures { result ≡ empty_slot }
     {
@@ -59,9 +59,10 @@ impl<'t> Slot<'t> {
     }
 }
 
-/// So many slots that are in no round.
+/// Returns `count` slots without a round.
 ///
 /// # Errors
+///
 /// `AllocError` if memory runs out.
 pub fn empty_slots<'t>(alloc: Global, count: usize) -> Result<Vec<Slot<'t>>, AllocError>
     ensures { IfOk result (λ slots. slots.items ≡ replicate count empty_slot) }
@@ -73,9 +74,10 @@ pub fn empty_slots<'t>(alloc: Global, count: usize) -> Result<Vec<Slot<'t>>, All
     Ok(slots)
 }
 
-/// The state of a receiver of a sender's transport block after it has received one more transmission.
+/// Returns the state of the receiver of a sender's transport block after one more transmission.
 ///
 /// # Errors
+///
 /// `AllocError` if memory runs out.
 pub(crate) fn next_state<'t>(
     sender: &Sender<'t>,
@@ -140,7 +142,7 @@ fn receive_more(state: &mut RxState, tx: &Tx, arrival: &Marks) -> Result<(), All
     Ok(())
 }
 
-/// How many code blocks have a position below K' that isn't fixed.
+/// Returns how many code blocks have an unknown position below K'.
 #[tactic(auto, using(nr_drawing::proofs::SideFacts::counted_more), unfolding(crate::specs::RunLines::unfixed_blocks))]
 pub fn unfixed(receiver: &Receiver<'_, Unrecorded>) -> u32
     ensures value { result ≡ unfixed_blocks receiver.now.link receiver.now.heard }
@@ -156,7 +158,7 @@ pub fn unfixed(receiver: &Receiver<'_, Unrecorded>) -> u32
     count
 }
 
-/// Lets a slot's receiver go, unless a later transmission goes on with what it has received.
+/// Frees the receiver of a slot, unless a later transmission continues its round.
 pub fn close(goes_on: bool, slot: &mut Slot)
     ensures { (link : Link) (list : List Reception) → HoldsSlot true link list slot.old
         → HoldsSlot goes_on link list slot.new }

@@ -1,5 +1,5 @@
-//! What `run` does with each transmission and each round, and what it keeps of them. A slot has a receiver only as long as
-//! later transmissions go on with its round.
+//! What `run` does with each transmission and each round, and what it keeps of them. A slot has a receiver only as long
+//! as later transmissions continue its round.
 
 ghost use Rattle.std.specs.Prelude.{IfOk, List, OnOk, [], if◌then◌else◌, length, replicate, ◌++◌, ◌-◌, ◌<◌};
 ghost use Rattle.std.specs.Prelude.{◌^◌, ◌≡◌};
@@ -24,19 +24,20 @@ use nr_files::{Transmission, goes_on};
 use nr_streams::Sink;
 use std::alloc::{AllocError, Global};
 
-/// What a run keeps.
+/// What a run keeps from one transmission to the next.
 #[derive(Drop)]
 pub(crate) struct RunSlots<'t> {
-    /// For each process, from 0, what it has received of the round that it is in.
+    /// For each process, from 0, what it has received in its current round.
     slots: Vec<Slot<'t>>,
-    /// How the rounds that ended did.
+    /// How the rounds that have ended did so.
     pub(crate) totals: Totals,
 }
 
 impl<'t> RunSlots<'t> {
-    /// A slot for each process, and no round.
+    /// Returns a slot for each process, none of them in a round.
     ///
     /// # Errors
+    ///
     /// `AllocError` if memory runs out.
     pub(crate) fn new(ready: &Ready<'t>) -> Result<RunSlots<'t>, AllocError>
         ensures slots { IfOk result (λ rounds. rounds.slots.items ≡ replicate
