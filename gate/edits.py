@@ -4,17 +4,24 @@ gate in crates/NAME/more-edits.txt.
 In both, `file:` names the file of what follows, and each `old:` is to be replaced with the `new:` below it. A line
 `# refused by: FUNCTION, clause NAME` says what refuses the edit. In more-edits.txt it has the edit's name before it and begins
 the edit: `# NAME refused by: ..`.
+
+gate/tried-edits.txt keeps what the prover said of those beside the gate when they were last tried: for each crate and verdict the
+edits, each with a digest of it and of the functions that it changes.
 """
 
 from __future__ import annotations
 
 import dataclasses
+import hashlib
 import pathlib
 import re
 import shutil
+import textwrap
 import typing
 
 ROOT = pathlib.Path(__file__).resolve().parent.parent
+TRIED = ROOT / "gate" / "tried-edits.txt"
+HEAD = re.compile(r"^( *)(?:pub(?:\(crate\))? )?(?:const |unsafe )*fn \w+", re.MULTILINE)
 REFUSED_BY = re.compile(r"# (?:(\S+) )?refused by: (\S.*)")
 
 
@@ -38,6 +45,11 @@ class Edit:
         """The edit as a file that `rt` reads."""
         return "".join(f"file: {file}\nold: {old}\nnew: {new}\n" for file, old, new in self.changes)
 
+    def digest(self) -> str:
+        """A digest of the edit, and of the head and body of each function that it changes."""
+        functions = [function_around((self.crate / file).read_text(), old) for file, old, _ in self.changes]
+        return hashlib.sha256(" ".join("".join([self.text(), *functions]).split()).encode()).hexdigest()[:8]
+
     def texts(self, crate: pathlib.Path) -> dict[pathlib.Path, str]:
         """The files that it changes in a copy of its crate, with their new texts."""
         found: dict[pathlib.Path, str] = {}
@@ -52,6 +64,16 @@ class Edit:
         if not found:
             raise BadEdit("it changes nothing")
         return found
+
+
+def function_around(text: str, part: str) -> str:
+    """The function of a source that a part of it stands in, or the whole text if no function has it."""
+    at = text.find(part)
+    for head in reversed(list(HEAD.finditer(text, 0, at + len(part)))):
+        end = re.compile(rf"^{head[1]}\}}$", re.MULTILINE).search(text, head.end())
+        if end and at < end.end():
+            return text[head.start() : end.end()]
+    return text
 
 
 def read(path: pathlib.Path, crate: pathlib.Path) -> typing.Iterator[Edit]:
@@ -92,5 +114,31 @@ def in_gate(crates: pathlib.Path = ROOT / "crates") -> list[Edit]:
 
 
 def beside_gate() -> list[Edit]:
-    """The edits of more-edits.txt, which `tests/wrong-bodies` tries."""
+    """The edits of more-edits.txt, which `gate/wrong-bodies` tries."""
     return [edit for path in sorted((ROOT / "crates").glob("*/more-edits.txt")) for edit in read(path, path.parent)]
+
+
+def verdicts() -> dict[tuple[str, str], tuple[str, str]]:
+    """The digest and the verdict of each edit beside the gate that was tried, by its crate and name."""
+    found = {}
+    for crate, verdict, those in re.findall(r"^(\w+) (\w+): (.*)$", TRIED.read_text() if TRIED.exists() else "", re.MULTILINE):
+        for name, digest in (it.split("=") for it in those.split()):
+            found[crate, name] = (digest, verdict)
+    return found
+
+
+def write_verdicts(found: dict[tuple[str, str], tuple[str, str]]) -> None:
+    """Writes what was said of the edits that are still beside the gate."""
+    groups: dict[str, list[str]] = {}
+    for edit in beside_gate():
+        digest, verdict = found.get((edit.crate.name, edit.name), ("", ""))
+        if digest:
+            groups.setdefault(f"{edit.crate.name} {verdict}: ", []).append(f"{edit.name}={digest}")
+    lines = [line for head, those in groups.items() for line in wrapped(head, those)]
+    TRIED.write_text("".join(f"{line}\n" for line in lines))
+
+
+def wrapped(head: str, those: list[str]) -> list[str]:
+    """Lines that begin with a head and have these words."""
+    room = 130 - len(head)
+    return [head + line for line in textwrap.wrap(" ".join(those), room, break_long_words=False, break_on_hyphens=False)]

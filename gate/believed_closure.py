@@ -1,6 +1,6 @@
 """The definitions that some clauses rest on: those that they cite, those that these cite, and so on, in reading order.
 
-`tests/believed-words --closure` prints them. A definition is a public word of a crate's `specs/`. It cites the words in
+`gate/believed-words --closure` prints them. A definition is a public word of a crate's `specs/`. It cites the words in
 its lines that its own file has, or that its file brings in by `use`. Types of the sources (`specs.declared`) and std's
 words end the walk.
 """
@@ -20,6 +20,9 @@ USE = re.compile(r"^ *(?:ghost )?use Rattle\.(\w+)\.specs\.((?:inside\.)?\w+)\.(
 OF_SEVERAL = re.compile(r"^( *(?:ghost )?use )([\w.]+\.)\{([^}]*\.[^}]*)\}", re.MULTILINE)
 HEAD = re.compile(r"^(?:(?:abbrev|unfoldable|opaque) )*pub (?:(?:abbrev|unfoldable|record|data|class) )*(\S+)")
 TOKEN = re.compile(r"(?<![\w.'])[A-Za-z_][\w'\-]*")
+# A `use` line of a type that a crate's sources declare.
+DECLARED = re.compile(r"^ *(?:ghost )?use Rattle\.(\w+)\.specs\.declared\.([\w.]+?)\.\{?(\w+)\}?$", re.MULTILINE)
+OF_STD = re.compile(r"^use Rattle\.std\.specs\.[\w.]+\.(?:\{([^}]*)\}|([^\s;{}]+))", re.MULTILINE)
 OWN_FIELD = re.compile(r"^  pub (\S+) :", re.MULTILINE)
 
 
@@ -34,11 +37,15 @@ class Word:
 
 @dataclasses.dataclass
 class Definition:
-    """A definition: what the comment above it says, and its lines."""
+    """A definition: the lines of the comment above it, and its own."""
 
     word: Word
-    comment: str
+    above: list[str]
     lines: list[str]
+
+    @property
+    def comment(self) -> str:
+        return " ".join(line[2:].strip() for line in self.above)
 
 
 def specification(crate: str, module: str) -> pathlib.Path:
@@ -55,11 +62,11 @@ def definitions(crate: str, module: str) -> list[Definition]:
     current: Definition | None = None
     for line in path.read_text().split("\n") if path.exists() else []:
         if head := HEAD.match(line):
-            current = Definition(Word(crate, module, head[1]), " ".join(comment), [line])
+            current = Definition(Word(crate, module, head[1]), comment, [line])
             found.append(current)
             comment = []
         elif line.startswith("--"):
-            comment = [*comment, line[2:].strip()] if current is None else [line[2:].strip()]
+            comment = [*comment, line] if current is None else [line]
             current = None
         elif not line:
             current, comment = None, []
@@ -161,38 +168,9 @@ def modules_in_order(crate: str) -> list[str]:
     return placed
 
 
-def first_sentence(comment: str) -> str:
-    """A comment as far as its first full stop or semicolon."""
-    return re.split(r"(?<=[\w)`'])(?:\. |; |\.$)", comment)[0].strip()
-
-
-def lines_of(crate: str, module: str, those: list[Definition]) -> list[str]:
-    """A line for each of these definitions; one without a comment of its own stands with the one above it."""
-    named: list[list[str]] = []
-    said: list[str] = []
-    for definition in definitions(crate, module):
-        if definition.comment or not said:
-            said.append(first_sentence(definition.comment))
-            named.append([])
-        if definition in those:
-            named[-1].append(f"`{definition.word.name}`")
-    return [f"- {', '.join(names)}: {text}" for names, text in zip(named, said) if names]
-
-
-# The clauses that carry the theorem, and those that carry it over to the program's `run`. Each line has a crate, a
-# source file of it, a function, and the names of its clauses. The name "" means the clause without a name.
-THEOREM = (
-    ("nr_blockdesk", "sender.rt", "new", ("said",)),
-    ("nr_blockdesk", "sender.rt", "send", ("said",)),
-    ("nr_blockdesk", "sender.rt", "word", ("value", "meets")),
-    ("nr_blockdesk", "laws.rt", "words_are_only", ("",)),
-    ("nr_blockdesk", "receiver.rt", "new", ("said", "empty")),
-    ("nr_blockdesk", "receiver.rt", "take", ("",)),
-    ("nr_blockdesk", "receiver_laws.rt", "outcomes_are_exact", ("",)),
-    ("nr_blockdesk", "receiver_laws.rt", "delivered_is_only", ("",)),
-    ("nr_blockdesk", "receiver_laws.rt", "ends_are_safe", ("",)),
-    ("nr_blockdesk", "receiver_laws.rt", "erasures_are_safe", ("",)),
-)
+# The clause that is the theorem, and those that carry it over to the program's `run`. Each line has a crate, a source file of
+# it, a function, and the names of its clauses. The name "" means the clause without a name.
+THEOREM = (("nr_theorem", "transfer.rt", "carry", ("theorem",)),)
 PROGRAM = (
     ("nr_linkcommands", "run_command.rt", "run", ("",)),
     ("nr_linkcommands", "run_command/laws.rt", "runs_are_safe", ("",)),
@@ -204,7 +182,7 @@ class NoClause(Exception):
 
 
 def words_of_clauses(clauses: typing.Iterable[tuple[str, str, str, tuple[str, ...]]]) -> set[Word]:
-    """The words that these clauses cite."""
+    """The words that these clauses cite, and those that say what a clause sees of types that its file declares."""
     found = set()
     for crate, file, function, wanted in clauses:
         text = (ROOT / "crates" / crate / "src" / file).read_text()
@@ -215,17 +193,64 @@ def words_of_clauses(clauses: typing.Iterable[tuple[str, str, str, tuple[str, ..
             if name not in by_name:
                 raise NoClause(f"{crate}/src/{file}: {function} has no clause {name or 'without a name'}")
             found |= cited_in(by_name[name], brought(text))
+        for kind, model in re.findall(r"^impl Model for (\w+)[^\n]*\{\n(.*?)^\}", text, re.MULTILINE | re.DOTALL):
+            if head and re.search(rf"\b{kind}\b", head[0]):
+                for meaning in re.findall(r"^    ghost (?:Value|view) = \{(.*?)\};$", model, re.MULTILINE | re.DOTALL):
+                    found |= cited_in(meaning, brought(text))
     return found
 
 
-def theorem_page() -> str:
-    """What docs/theorem.md lists: the theorem's definitions, a line each."""
+def declared(words: set[Word]) -> list[str]:
+    """The types of the sources that these words cite, each as its source declares it, without comments."""
+    found: dict[tuple[str, str, str], None] = {}
+    for crate, module, those in reading_order(words):
+        text = "\n".join(line for it in those for line in it.lines)
+        for owner_crate, path, kind in DECLARED.findall(one_by_one(specification(crate, module).read_text())):
+            if "TheVariants" not in path and re.search(rf"\b{kind}\b", text):
+                found[owner_crate, path, kind] = None
+    return [declaration(*it) for it in found]
+
+
+def declaration(crate: str, path: str, kind: str) -> str:
+    """A struct or an enum as a crate declares it, in one line, without comments and attributes."""
+    source = ROOT / "crates" / crate / "src"
+    for file in [source / f"{path.replace('.', '/')}.rt", *sorted(source.glob("**/*.rt"))]:
+        text = file.read_text() if file.exists() else ""
+        if found := re.search(rf"^pub (?:struct|enum) {kind}\b[^\n]*(?:;$|\{{.*?^\}})", text, re.MULTILINE | re.DOTALL):
+            lines = [line.strip() for line in found[0].split("\n") if not re.match(r"\s*(//|#\[|$)", line)]
+            return " ".join(lines).replace(", }", " }")
+    raise NoClause(f"{crate} declares no type {kind}")
+
+
+def specification_page() -> str:
+    """What docs/specification.md has: the theorem's definitions, whole, and the types of the sources that they speak of."""
     theorem = closure(words_of_clauses(THEOREM))
     files = list(reading_order(theorem))
     lines = [f"These are {len(theorem)} definitions in {len(files)} files, lowest crate first."]
     for crate, module, those in files:
-        lines += ["", f"**`{crate}/specs/{module}.antt`**", "", *lines_of(crate, module, those)]
+        path = specification(crate, module)
+        about = re.match(r"(?:--[^\n]*\n)+", path.read_text())
+        lines += ["", f"## {crate}: {module.rpartition('/')[2]}", ""]
+        lines += [" ".join(line[2:].strip() for line in about[0].splitlines())] if about else []
+        lines += ["", "```text"]
+        for definition in those:
+            lines += [*([""] if lines[-1] != "```text" else []), *definition.above, *definition.lines]
+        lines += ["```"]
+    lines += ["", "## Types of the sources", "", "```rust", *declared(theorem), "```"]
     return "\n".join(lines) + "\n"
+
+
+def words_of_std() -> set[str]:
+    """The words of the standard library that the theorem's definitions use."""
+    found = set()
+    for crate, module, those in reading_order(closure(words_of_clauses(THEOREM))):
+        text = re.sub(r"--[^\n]*", "", "\n".join(line for it in those for line in it.lines))
+        for several, one in OF_STD.findall(one_by_one(specification(crate, module).read_text())):
+            for name in map(str.strip, (several or one).split(",")):
+                parts = [re.escape(part) for part in name.split("◌") if part]
+                exact = rf"(?<![\w.'])(?:{parts[0]})(?![\w'-])" if parts == [re.escape(name)] else r"[^\n]*".join(parts)
+                found |= {name} if re.search(exact, text) else set()
+    return found
 
 
 def program_page() -> str:
