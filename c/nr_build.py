@@ -1,5 +1,6 @@
-"""Makes the wheel of the module nr, with the library libnr.so.2 beside it: what `pip install ./c` calls (PEP 517). It
-needs the standard library alone, and the built library: out/libnr.so.2, which `make` makes if it is missing or old.
+"""Makes the wheel of the Python project: the module nr with the library libnr.so.3 beside it, the package linksim_tools with an
+entry point for each tool, and the examples. `pip install ./c` calls it (PEP 517). It needs the standard library alone, and the
+built library: out/libnr.so.3, which `make` makes if it is missing or old.
 
 The wheel has no time and no path of this machine in it, so that it is the same octets wherever it is made."""
 
@@ -8,6 +9,7 @@ from __future__ import annotations
 import ast
 import base64
 import hashlib
+import json
 import os
 import pathlib
 import re
@@ -17,45 +19,42 @@ import time
 import typing
 import zipfile
 
+import nr_version
+
 HERE = pathlib.Path(__file__).resolve().parent
-TOOLS = HERE.parent / "tools"
-# The tools that the module calls (nr/_tools.py): with all that they import they are packed into it.
-CALLED = ["table", *(f"linksim_tools/curve/{name}.py" for name in ("setting", "grid", "making", "draws", "simulating", "pool"))]
+ROOT = HERE.parent
+TOOLS = ("certify", "conform", "curve", "explain", "table", "vectors")
+# What some tools need beside the standard library: `pip install 'nr[curve]'`.
+EXTRAS = {"curve": ["numpy", "tomli; python_version < '3.11'"], "plot": ["numpy", "matplotlib", "tomli; python_version < '3.11'"]}
 SUMMARY = "The data coding chain of 5G NR's shared channels (3GPP TS 38.212), proved"
 LICENCE = "No licence is chosen yet: that is for the project's owner. Until then all rights are reserved."
 # If no SOURCE_DATE_EPOCH says when: the first time that a zip file can have.
 FIRST = 315532800
+version = nr_version.for_python
 
 
-def version() -> str:
-    """The project's version."""
-    return (HERE.parent / "VERSION").read_text().strip()
+def below(folder: pathlib.Path, *endings: str) -> dict[str, bytes]:
+    """The files below a folder with one of these endings, by their names from its parent on."""
+    paths = [path for path in folder.glob("**/*") if path.suffix in endings and path.is_file() and "out" not in path.parts]
+    return {path.relative_to(folder.parent).as_posix(): path.read_bytes() for path in paths}
 
 
 def sources() -> dict[str, bytes]:
-    """The files of the module, by their names below the folder of Python's packages. These are its own, the practice table, and
-    what it shares with the tools."""
-    paths = [path for path in (HERE / "nr").iterdir() if path.suffix == ".py" or path.name == "py.typed"]
-    files = {f"nr/{path.name}": path.read_bytes() for path in paths}
-    files["nr/practice.csv"] = (HERE.parent / "examples" / "practice.csv").read_bytes()
-    return {**files, **{f"nr/_tools/{name}": (TOOLS / name).read_bytes() for name in called()}}
+    """The files of both packages and the practice table, by their names below the folder of Python's packages."""
+    practice = {"nr/practice.csv": b"".join((ROOT / "examples" / name).read_bytes() for name in ("drawn.csv", "practice.csv"))}
+    return {**below(HERE / "nr", ".py", ".typed"), **practice, **below(ROOT / "tools" / "linksim_tools", ".py", ".txt", ".js", ".css")}
 
 
-def called() -> list[str]:
-    """The files of the tools that the module calls, with all that they import."""
-    found: set[str] = set()
-    left = [*CALLED]
-    while left:
-        name = left.pop()
-        if name in found or not (TOOLS / name).is_file():
-            continue
-        found.add(name)
-        left += [f"{above}/__init__.py" for above in pathlib.PurePosixPath(name).parents]
-        for it in ast.walk(ast.parse((TOOLS / name).read_bytes())):
-            if isinstance(it, ast.ImportFrom) and (it.module or "").startswith("linksim_tools"):
-                place = str(it.module).replace(".", "/")
-                left += [f"{place}.py", *(f"{place}/{one.name}.py" for one in it.names)]
-    return sorted(found)
+def data() -> dict[str, bytes]:
+    """What the wheel puts below share/linksim of the environment: the examples of the tools' help, and which sources it is of. And the
+    verifier of certificates, which is a script by itself and no part of the packages."""
+    examples = below(ROOT / "examples", ".csv", ".toml", ".txt", ".py")
+    commit, when = nr_version.source()
+    of = {"version": nr_version.declared(), **({"commit": commit, "time": when} if commit else {})}
+    said = {"built.json": json.dumps(of).encode() + b"\n"}
+    script = (ROOT / "tools" / "verify").read_bytes().replace(b"#!/usr/bin/env python3", b"#!python", 1)
+    placed = {f"nr-{version()}.data/data/share/linksim/{name}": octets for name, octets in {**examples, **said}.items()}
+    return {**placed, f"nr-{version()}.data/scripts/linksim-verify": script}
 
 
 def glibc_of(octets: bytes) -> tuple[int, int]:
@@ -70,23 +69,34 @@ def tags(octets: bytes) -> list[str]:
     return [f"py3-none-manylinux_{wanted[0]}_{wanted[1]}_x86_64", *older]
 
 
-def library() -> bytes:
-    """The octets of the shared library that NR_LIBRARY names, else of this folder's, built if it is missing or old."""
+def libraries() -> dict[str, bytes]:
+    """The shared library that NR_LIBRARY names, else this folder's, built if it is missing or old; and the one for a higher level
+    of processors below its folder, if it is there."""
     named = os.environ.get("NR_LIBRARY")
     if not named:
-        subprocess.run(["make", "out/libnr.so.2"], cwd=HERE, check=True, stdout=subprocess.DEVNULL)
-    return pathlib.Path(named or HERE / "out" / "libnr.so.2").read_bytes()
+        subprocess.run(["make", "all"], cwd=HERE, check=True, stdout=subprocess.DEVNULL)
+    path = pathlib.Path(named or HERE / "out" / "libnr.so.3")
+    found = {"nr/libnr.so.3": path.read_bytes()}
+    for faster in path.parent.glob("glibc-hwcaps/*/libnr.so.3"):
+        found[f"nr/{faster.relative_to(path.parent).as_posix()}"] = faster.read_bytes()
+    return found
 
 
 def about(octets: bytes) -> dict[str, bytes]:
     """The files that say what the wheel is, by their names; what the module says of itself is the long description."""
     folder = f"nr-{version()}.dist-info"
-    lines = ["Metadata-Version: 2.1", "Name: nr", f"Version: {version()}", f"Summary: {SUMMARY}", f"License: {LICENCE}"]
+    lines = ["Metadata-Version: 2.1", "Name: nr", f"Version: {version()}", f"Summary: {SUMMARY}"]
     said = ast.get_docstring(ast.parse((HERE / "nr" / "__init__.py").read_bytes())) or ""
-    lines += ["Requires-Python: >=3.8", "Description-Content-Type: text/markdown", "", said, ""]
+    lines += ["Requires-Python: >=3.8", "Description-Content-Type: text/markdown"]
+    for extra, wanted in EXTRAS.items():
+        lines.append(f"Provides-Extra: {extra}")
+        lines += [f"Requires-Dist: {it}{' and' if ';' in it else ';'} extra == '{extra}'" for it in wanted]
+    lines += ["", said, ""]
+    entries = ["[console_scripts]", *(f"linksim-{tool} = linksim_tools.start:{tool}" for tool in TOOLS), ""]
     marked = "".join(f"Tag: {tag}\n" for tag in tags(octets))
     wheel = f"Wheel-Version: 1.0\nGenerator: nr_build\nRoot-Is-Purelib: false\n{marked}"
-    return {f"{folder}/METADATA": "\n".join(lines).encode(), f"{folder}/WHEEL": wheel.encode()}
+    texts = {"METADATA": "\n".join(lines), "WHEEL": wheel, "entry_points.txt": "\n".join(entries)}
+    return {f"{folder}/{name}": text.encode() for name, text in texts.items()}
 
 
 def record(files: dict[str, bytes]) -> dict[str, bytes]:
@@ -103,8 +113,9 @@ def build_wheel(
     wheel_directory: str | os.PathLike[str], config_settings: typing.Any = None, metadata_directory: str | None = None
 ) -> str:
     """Writes the wheel into a folder, and returns its name."""
-    octets = library()
-    files = dict(sorted({**sources(), "nr/libnr.so.2": octets}.items()))
+    built = libraries()
+    octets = built["nr/libnr.so.3"]
+    files = dict(sorted({**sources(), **data(), **built}.items()))
     files.update(about(octets))
     files.update(record(files))
     when = time.gmtime(max(FIRST, int(os.environ.get("SOURCE_DATE_EPOCH", FIRST))))[:6]
@@ -124,7 +135,7 @@ def build_sdist(sdist_directory: str, config_settings: typing.Any = None) -> typ
 
 
 def install(folder: str) -> None:
-    """Puts the module's files below the folder of Python's packages, as `make install` does."""
+    """Puts the files of both packages below the folder of Python's packages, as `make install` does."""
     for name, octets in sources().items():
         path = pathlib.Path(folder) / name
         path.parent.mkdir(parents=True, exist_ok=True)

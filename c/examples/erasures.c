@@ -14,16 +14,16 @@ static uint32_t read_table(const char *path, NrEntry **entries, size_t *count) {
     FILE *file = fopen(path, "rb");
     size_t length;
     uint32_t status;
-    if (!file) return NR_READ;
+    if (!file) return NR_ERR_READ;
     length = fread(text, 1, sizeof text, file);
-    status = ferror(file) ? NR_READ : NR_OK;
+    status = ferror(file) ? NR_ERR_READ : NR_OK;
     fclose(file);
     if (status) return status;
     /* A room for none: how many are wanted. */
     status = nr_table_entries(text, length, NULL, 0, count);
-    if (status != NR_ROOM) return status;
+    if (status != NR_ERR_ROOM) return status;
     *entries = malloc(*count * sizeof **entries);
-    return *entries ? nr_table_entries(text, length, *entries, *count, count) : NR_MEMORY;
+    return *entries ? nr_table_entries(text, length, *entries, *count, count) : NR_ERR_MEMORY;
 }
 
 int main(int count, char **words) {
@@ -51,7 +51,7 @@ int main(int count, char **words) {
         txs[at].nl = 1;
         status = nr_send(table, entries, &settings, block, sizeof block, &txs[at], places, G);
         for (size_t place = 0; place < G; place++)
-            if (rand() % 2) places[place] = NR_ERASED;
+            if (rand() % 2) places[place] = NR_BIT_ERASED;
     }
     if (!status)
         status = nr_receive(table, entries, &settings, 8 * sizeof block, txs, MOST, heard, sizeof heard, outcomes, MOST, &left, 1,
@@ -62,6 +62,6 @@ int main(int count, char **words) {
         return 1;
     }
     for (int at = 0; at < MOST; at++) printf("after transmission %d: %s\n", at + 1, names[outcomes[at]]);
-    if (outcomes[MOST - 1] == NR_DELIVERED) printf("%.*s\n", (int)sizeof delivered, (const char *)delivered);
+    if (outcomes[MOST - 1] == NR_OUTCOME_DELIVERED) printf("%.*s\n", (int)sizeof delivered, (const char *)delivered);
     return 0;
 }
