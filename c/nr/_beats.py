@@ -4,7 +4,7 @@ from __future__ import annotations
 
 import typing
 
-from ._faults import BIT, LENGTH, Fault
+from ._faults import BIT, LENGTH, Error
 from ._values import Count, Octets, number, octets_of
 
 WIDEST = 512
@@ -30,7 +30,7 @@ def beats(bits: Octets, width: Count, first: str = "lsb") -> typing.List[int]:
     count, lowest = _bus(width, first)
     given = octets_of(bits)
     if given.translate(None, b"\0\1\2"):
-        raise Fault(BIT)
+        raise Error(BIT)
     digits = given.translate(_DIGITS).decode()
     parts = [digits[start : start + count] for start in range(0, len(digits), count)]
     if lowest:
@@ -42,7 +42,7 @@ def bits_of_beats(
     given: typing.Iterable[Count], width: Count, first: str = "lsb", count: typing.Optional[Count] = None
 ) -> bytearray:
     """The bits of beats() again, an octet each: the first `count` of them, or all that the beats have room for. Raises
-    Fault(LENGTH) if there are not so many, ValueError if a number is wider than a beat."""
+    Error(LENGTH) if there are not so many, ValueError if a number is wider than a beat."""
     bits, lowest = _bus(width, first)
     found = bytearray()
     for it in given:
@@ -53,5 +53,5 @@ def bits_of_beats(
         return found
     wanted = number("count", count)
     if wanted > len(found):
-        raise Fault(LENGTH)
+        raise Error(LENGTH)
     return found[:wanted]

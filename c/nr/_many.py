@@ -7,15 +7,18 @@ import ctypes
 import typing
 
 from ._arrays import fresh
-from ._faults import ROOM, Fault, judge, length_fault
+from ._faults import ROOM, Error, judge, length_error
 from ._library import TxStruct, library
 from ._records import Outcome, ReceivedMany, Tx
 from ._table import Table, entries_of
-from ._values import (MOST_BITS, Count, OctetRows, Rate, Rate1024, Rate2048, Rows, items_of, number, packed, plan_struct, room_of,
+from ._values import (MOST_BITS, Count, Limit, OctetRows, Rate, Rate1024, Rate2048, Rows, items_of, number, packed, plan_struct, room_of,
                       rows_of, settings, tx_struct, view_of, warn_of_bits, warn_of_soft)
 
 if typing.TYPE_CHECKING:
     from ._arrays import Places
+
+# So many octets are looked at at a time.
+PIECE = 1 << 22
 
 _Room = typing.TypeVar("_Room")
 Txs = typing.Union[Tx, typing.Iterable[Tx]]
@@ -24,41 +27,42 @@ Txs = typing.Union[Tx, typing.Iterable[Tx]]
 @typing.overload
 def send_many(  # type: ignore
     table: Table, blocks: typing.Optional[OctetRows] = None, tx: typing.Optional[Txs] = None, *, bits: typing.Any = None,
-    rate2048: Rate2048 = None, rate1024: Rate1024 = None, rate: Rate = None, lbrm: Count = 0, out: None = None,
+    rate2048: Rate2048 = None, rate1024: Rate1024 = None, rate: Rate = None, lbrm: Limit = None, out: None = None,
 ) -> Places: ...
 
 
 @typing.overload
 def send_many(
     table: Table, blocks: typing.Optional[OctetRows] = None, tx: typing.Optional[Txs] = None, *, bits: typing.Any = None,
-    rate2048: Rate2048 = None, rate1024: Rate1024 = None, rate: Rate = None, lbrm: Count = 0, out: _Room,
+    rate2048: Rate2048 = None, rate1024: Rate1024 = None, rate: Rate = None, lbrm: Limit = None, out: _Room,
 ) -> _Room: ...
 
 
 def send_many(
     table: Table, blocks: typing.Optional[OctetRows] = None, tx: typing.Optional[Txs] = None, *, bits: typing.Any = None,
-    rate2048: Rate2048 = None, rate1024: Rate1024 = None, rate: Rate = None, lbrm: Count = 0, out: typing.Any = None,
+    rate2048: Rate2048 = None, rate1024: Rate1024 = None, rate: Rate = None, lbrm: Limit = None, out: typing.Any = None,
 ) -> typing.Any:
     """What send() gives of each of many transport blocks, as an array with a row for each block. It has the G octets of a Tx, or of
     each of a list of Tx one after the other, and receive_many() takes it. If `out` is given, which has as many octets, it
     is written and returned. `blocks` is an array with a row of octets for each block, or a list of blocks of equal length. In place
-    of it `bits` may have a row of bits for each: send_many(table, tx=tx, bits=..). With a Fault nothing is written."""
+    of it `bits` may have a row of bits for each: send_many(table, tx=tx, bits=..). On an Error nothing is written."""
     entries, rows, structs = entries_of(table), _blocks_of(blocks, bits), _structs_of(tx)
     # A larger G is refused before the room is judged.
     g = sum(it.g for it in structs if it.g <= 1 << 22)
     made, address = fresh((rows.rows, g if out is None else 0), ctypes.c_ubyte)
     sent, place = (made, _at(address)) if out is None else (out, _place_of(out, rows, g))
-    link, count = settings(rate2048, rate1024, rate, lbrm), rows.rows
-    if not count:
-        return sent
-    judge(library.nr_send_many(*entries, ctypes.byref(link), 8 * rows.width, *_listed(structs), count, _at(rows.address),
-                               count * rows.width, place, count * g))
+    link, count, a = settings(rate2048, rate1024, rate, lbrm), rows.rows, 8 * rows.width
+    if not count and not a:
+        return sent  # (of an empty list nobody can say how long its blocks are)
+    status = library.nr_send_many(*entries, ctypes.byref(link), a, *_listed(structs), count, _at(rows.address), count * rows.width,
+                                  place, count * g)
+    judge(status, block=(link.rate2048, a))
     return sent
 
 
 def receive_many(
     table: Table, a: Count, txs: Txs, heard: typing.Any, *, rate2048: Rate2048 = None,
-    rate1024: Rate1024 = None, rate: Rate = None, lbrm: Count = 0,
+    rate1024: Rate1024 = None, rate: Rate = None, lbrm: Limit = None,
 ) -> ReceivedMany:
     """What receive() returns of each of many transport blocks of `a` bits, as a ReceivedMany. `txs` is the Tx of all, or a list
     of those that each block was sent by. `heard` is a list with an array for each Tx, which has a row of its G places for each
@@ -68,17 +72,18 @@ def receive_many(
     structs = _structs_of(txs)
     entries, a = entries_of(table), number("a", a)
     rows = _heard_of(heard, [tx.g for tx in structs])
-    if rows.count:
-        # (more than an int of C can count is no length to string_at)
-        warn_of_soft(ctypes.string_at(rows.place, min(rows.width, 1 << 22)))
+    for at in range(0, rows.count * rows.width, PIECE):
+        if warn_of_soft(ctypes.string_at(rows.place.value + at, min(rows.count * rows.width - at, PIECE))):
+            break
     link = settings(rate2048, rate1024, rate, lbrm)
     sent, c = len(structs), plan_struct(link.rate2048, a).c
     counts, kinds = (sent, c, min(a, MOST_BITS) // 8), (ctypes.c_uint32, ctypes.c_uint32, ctypes.c_ubyte)
     made = [fresh((rows.count, count), kind) for count, kind in zip(counts, kinds)]
     places = [_at(address) for _, address in made]
     rooms = [it for place, count in zip(places, counts) for it in (place, count * rows.count)]
-    judge(library.nr_receive_many(*entries, ctypes.byref(link), a, *_listed(structs), rows.count, rows.place,
-                                  rows.width * rows.count, *rooms))
+    status = library.nr_receive_many(*entries, ctypes.byref(link), a, *_listed(structs), rows.count, rows.place,
+                                     rows.width * rows.count, *rooms)
+    judge(status, block=(link.rate2048, a))
     outcomes, left, blocks = (array for array, _ in made)
     after, _ = fresh((rows.count,))
     after[:] = [ends.index(Outcome.DELIVERED) + 1 if Outcome.DELIVERED in ends else 0 for ends in outcomes.tolist()]
@@ -112,17 +117,17 @@ def _heard_of(heard: typing.Any, lengths: typing.List[int]) -> _Heard:
     if len(shape) == 3:
         _judge_widths([shape[2]] * shape[1], lengths, shape[0])
     elif rows.rows and rows.width != sum(lengths):
-        raise length_fault("a row of heard", rows.width, sum(lengths))
+        raise length_error("a row of heard", rows.width, sum(lengths))
     return _Heard([rows])
 
 
 def _judge_widths(widths: typing.List[int], lengths: typing.List[int], rows: int) -> None:
     """Raises the fault of places that are not as many as the transmissions want."""
     if len(widths) != len(lengths):
-        raise length_fault("the list of what was heard", len(widths), len(lengths))
+        raise length_error("the list of what was heard", len(widths), len(lengths))
     for turn, (width, length) in enumerate(zip(widths, lengths), 1):
         if rows and width != length:
-            raise length_fault(f"a row of what was heard of transmission {turn}", width, length)
+            raise length_error(f"a row of what was heard of transmission {turn}", width, length)
 
 
 def _has_rows(given: typing.Any) -> bool:
@@ -176,7 +181,7 @@ def _place_of(out: typing.Any, rows: Rows, g: int) -> typing.Any:
     first, room = room_of(out)
     view = view_of(out)
     if room != rows.rows * g or view.ndim == 2 and view.shape != (rows.rows, g):
-        raise Fault(ROOM)
+        raise Error(ROOM)
     at = ctypes.addressof(first)
     if at < rows.end and rows.address < at + room:
         raise ValueError("out overlaps the blocks: give it memory of its own")

@@ -9,7 +9,7 @@ from ._faults import judge
 from ._library import library
 from ._records import Outcome, Short, Taken, Tx
 from ._table import Table, entries_of
-from ._values import (MOST_BITS, Count, Octets, Rate, Rate1024, Rate2048, fresh_room, number, octets_of, plan_struct, room_of,
+from ._values import (MOST_BITS, Count, Limit, Octets, Rate, Rate1024, Rate2048, fresh_room, number, octets_of, plan_struct, room_of,
                       settings, tx_struct, warn_of_soft)
 
 
@@ -20,18 +20,20 @@ class Receiver(metaclass=Short):
     __slots__ = "table", "a", "rate2048", "lbrm", "_room"
 
     def __init__(
-        self, table: Table, a: Count, *, rate2048: Rate2048 = None, rate1024: Rate1024 = None, rate: Rate = None, lbrm: Count = 0,
+        self, table: Table, a: Count, *, rate2048: Rate2048 = None, rate1024: Rate1024 = None, rate: Rate = None, lbrm: Limit = None,
         room: typing.Optional[Octets] = None,
     ) -> None:
         link, size = settings(rate2048, rate1024, rate, lbrm), ctypes.c_size_t()
-        self.table, self.a, self.rate2048, self.lbrm = table, number("a", a), int(link.rate2048), int(link.lbrm)
+        self.table, self.a, self.rate2048, self.lbrm = table, number("a", a), int(link.rate2048), int(link.lbrm) or None
         if room is not None:
-            self._room = bytearray(octets_of(room))
+            self._room = bytearray(octets_of(room, "room"))
             return
-        judge(library.nr_receiver_size(self.rate2048, self.a, ctypes.byref(size)))
+        block = self.rate2048, self.a
+        judge(library.nr_receiver_size(*block, ctypes.byref(size)), block=block)
         self._room = bytearray(size.value)
         first, octets = room_of(self._room)
-        judge(library.nr_receiver_start(*entries_of(table), ctypes.byref(link), self.a, ctypes.byref(first), octets))
+        status = library.nr_receiver_start(*entries_of(table), ctypes.byref(link), self.a, ctypes.byref(first), octets)
+        judge(status, block=block)
 
     def __repr__(self) -> str:
         return f"Receiver(a={self.a}, rate2048={self.rate2048}, lbrm={self.lbrm})"
@@ -48,9 +50,9 @@ class Receiver(metaclass=Short):
 
     def take(self, tx: Tx, heard: Octets) -> Taken:
         """Takes up a transmission, of which `heard` has what was received at its G places, as receive() has it. Returns what may be
-        handed up of all that was received so far, as a Taken. With a Fault it is as it was: Room or State is that of a room that is
-        no such receiver's."""
-        entries, given, places = entries_of(self.table), tx_struct(tx), octets_of(heard)
+        handed up of all that was received so far, as a Taken. On an Error it is as it was: Room or State means that the room is that of
+        another receiver."""
+        entries, given, places = entries_of(self.table), tx_struct(tx), octets_of(heard, "heard")
         warn_of_soft(places)
         link, outcome = settings(self.rate2048, None, None, self.lbrm), ctypes.c_uint32()
         left, (kept, octets) = (ctypes.c_uint32 * plan_struct(self.rate2048, self.a).c)(), room_of(self._room)
@@ -59,13 +61,13 @@ class Receiver(metaclass=Short):
             *entries, ctypes.byref(link), self.a, ctypes.byref(kept), octets, ctypes.byref(given), places, len(places),
             ctypes.byref(outcome), left, len(left), ctypes.byref(first), room,
         )
-        judge(status, ("what was heard", len(places), given.g))
+        judge(status, ("heard", len(places), given.g), (self.rate2048, self.a))
         found = Outcome(outcome.value)
         return Taken(found, list(left), block if found is Outcome.DELIVERED else None)
 
-    def __getstate__(self) -> typing.Tuple[Table, int, int, int, bytes]:
+    def __getstate__(self) -> typing.Tuple[Table, int, int, typing.Optional[int], bytes]:
         return self.table, self.a, self.rate2048, self.lbrm, self.room
 
-    def __setstate__(self, state: typing.Tuple[Table, int, int, int, bytes]) -> None:
+    def __setstate__(self, state: typing.Tuple[Table, int, int, typing.Optional[int], bytes]) -> None:
         self.table, self.a, self.rate2048, self.lbrm, room = state
         self._room = bytearray(room)

@@ -115,6 +115,18 @@ class ReceivedMany(typing.NamedTuple):
         return f"ReceivedMany(blocks={len(self.after)}, rates={self.rates})"
 
 
+class Joined(typing.NamedTuple):
+    """What join() returns: the octets of the transport block, whether its CRC passes, and for each code block whether its CRC24B
+    passes. A single code block has no CRC24B; there it is whether the transport block's CRC passes."""
+
+    block: bytearray
+    block_passed: bool
+    passed: typing.List[bool]
+
+    def __repr__(self) -> str:
+        return f"Joined(block={_short(self.block)}, block_passed={self.block_passed}, passed={self.passed})"
+
+
 class Taken(typing.NamedTuple):
     """What Receiver.take() returns, of all that was received so far. The outcome, and how many of the K' bits of each code block
     are not fixed. Then the block's octets if it is delivered, else None."""
@@ -163,12 +175,18 @@ class Tx(_Fields, metaclass=Short):  # type: ignore[misc]
     __slots__ = ()
 
     def __new__(
-        cls, g: typing.SupportsIndex, rv: typing.SupportsIndex = 0, qm: typing.SupportsIndex = 1, nl: typing.SupportsIndex = 1,
+        cls, g: typing.SupportsIndex, *, rv: typing.SupportsIndex = 0, qm: typing.SupportsIndex = 1, nl: typing.SupportsIndex = 1,
         blocks: typing.Optional[typing.Iterable[typing.SupportsIndex]] = None,
     ) -> Tx:
+        if blocks is not None and not isinstance(blocks, typing.Iterable):
+            raise TypeError(f"blocks is {blocks!r}, and not the indexes of code blocks, as [0, 2]")
         some = None if blocks is None else tuple(whole("a code block", it) for it in blocks)
         return super().__new__(cls, whole("g", g), whole("rv", rv), whole("qm", qm), whole("nl", nl), some)
 
+    def __getnewargs_ex__(self) -> typing.Tuple[typing.Tuple[int], typing.Dict[str, typing.Any]]:
+        return (self.g,), dict(zip(self._fields[1:], self[1:]))
+
     @classmethod
     def _make(cls, fields: typing.Iterable[typing.Any]) -> Tx:  # type: ignore[override]
-        return cls(*fields)
+        g, *others = fields
+        return cls(g, **dict(zip(cls._fields[1:], others)))

@@ -4,20 +4,24 @@ from __future__ import annotations
 
 import ctypes
 import os
+import pathlib
 import typing
 
-from ._faults import Fault, judge
+from ._faults import Error, judge
 from ._library import Entry, ReportStruct, library
 from ._records import Report, Short
-from ._tools import file_of
 from ._values import Octets, octets_of
+
+# The practice table is beside these files where the module is installed, and in two of the examples in a checkout.
+HERE = pathlib.Path(__file__).resolve().parent
+PRACTICE = [HERE / "practice.csv"], [HERE.parent.parent / "examples" / name for name in ("drawn.csv", "practice.csv")]
 
 
 class Table(metaclass=Short):
     """A shift table, read from its text (docs/formats.md) once, for as many calls as you like; any number of threads may use it.
     `one` and `two` are how many entries it has of base graph 1 and of base graph 2; len() is how many in all.
 
-    Table(octets) takes the octets of a text, and Table.open(path) a file. A text that is refused raises a Fault, as check_table()
+    Table(octets) takes the octets of a text, and Table.open(path) a file. A text that is refused raises an Error, as check_table()
     does. A Table is pickled by its entries, which each call judges."""
 
     __slots__ = "one", "two", "_entries"
@@ -38,9 +42,14 @@ class Table(metaclass=Short):
 
     @classmethod
     def practice(cls) -> Table:
-        """The practice table, which comes with the module: base graph 2 alone, with values that are not the published ones. Those
-        are read from the text of TS 38.212 by `python -m nr.table read`."""
-        return cls.open(file_of("practice.csv", "examples/practice.csv"))
+        """The practice table, which comes with the module: both base graphs, with random shift values in place of the published ones.
+        Those are read from the text of TS 38.212 by `python -m nr.table read`."""
+        return cls(b"".join(path.read_bytes() for path in PRACTICE[not PRACTICE[0][0].exists()]))
+
+    @property
+    def entries(self) -> typing.List[typing.Tuple[int, ...]]:
+        """The entries, ascending: each has the base graph, the row, the column and the shift values of the sets 0 to 7."""
+        return [(it.graph, it.row, it.col, *it.values) for it in self._entries]
 
     def __len__(self) -> int:
         return len(self._entries)
@@ -67,12 +76,12 @@ class Table(metaclass=Short):
 def check_table(text: Octets) -> Report:
     """Judges the text of a shift table, and returns how many entries it has, as a Report.
 
-    A Fault has in `place` the number of the record for Csv, Number, Range and Twice. For Core, Extension and MissingRow it has
+    An Error has in `place` the number of the record for Csv, Number, Range and Twice. For Core, Extension and MissingRow it has
     the base graph, else 0."""
     octets, report = octets_of(text), ReportStruct()
     status = library.nr_table_check(octets, len(octets), ctypes.byref(report))
     if status:
-        raise Fault(status, report.place)
+        raise Error(status, report.place)
     return Report(report.one, report.two)
 
 

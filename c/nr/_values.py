@@ -4,14 +4,16 @@ from __future__ import annotations
 
 import contextlib
 import ctypes
+import decimal
 import fractions
 import functools
 import math
+import os
 import struct
 import typing
 import warnings
 
-from ._faults import BIT, SIZE, Fault
+from ._faults import BIT, SIZE, Error
 from ._library import PlanStruct, SettingsStruct, TxStruct, library
 from ._records import Tx, whole
 
@@ -38,6 +40,8 @@ Rate1024 = typing.Optional[typing.SupportsFloat]
 Rate = typing.Optional[typing.SupportsFloat]
 # A whole number, of Python or of numpy.
 Count = typing.SupportsIndex
+# TBS_LBRM in bits, or None if the circular buffer is not limited.
+Limit = typing.Optional[typing.SupportsIndex]
 
 MOST_BITS = 1_310_720  # of a transport block
 _DIGITS = bytes.maketrans(b"\0\1", b"01")
@@ -61,12 +65,15 @@ def _float_of(name: str, given: typing.SupportsFloat) -> float:
 
 def _fraction(name: str, given: typing.SupportsFloat) -> fractions.Fraction:
     """A number of any kind as a fraction."""
-    if isinstance(given, (int, fractions.Fraction)):
+    if isinstance(given, (int, fractions.Fraction, decimal.Decimal)) and math.isfinite(given):
         return fractions.Fraction(given)
     value = _float_of(name, given)
     if not math.isfinite(value):
         raise ValueError(f"{name} is {value:g}, and not a number")
-    return fractions.Fraction(value)
+    # By the shortest decimal that gives this float, also of 32 bits: 0.67 is the 0.67 of 6.2.2.
+    with contextlib.suppress(ValueError):
+        return fractions.Fraction(str(given))
+    return fractions.Fraction(repr(value))
 
 
 def threshold_of(p: typing.SupportsFloat) -> int:
@@ -88,29 +95,36 @@ def rate_of(rate2048: Rate2048, rate1024: Rate1024, rate: Rate) -> int:
     wanted = _fraction("rate1024", rate1024)
     if 0 < wanted < 1:
         raise ValueError(f"rate1024 is {rate1024}, and {float(1024 * wanted):g} in 1024ths: give that, or rate={rate1024}")
-    if (2 * wanted).denominator != 1:
-        raise ValueError(f"rate1024 is {rate1024}, which is neither a whole number nor a half more than one")
-    return number("rate1024", int(2 * wanted))
+    return number("rate1024", _in_2048ths(2 * wanted))
+
+
+# The code rates with which 6.2.2 and 7.2.2 compare, in 2048ths.
+_COMPARED = fractions.Fraction(2048, 4), fractions.Fraction(2048 * 67, 100)
+
+
+def _in_2048ths(doubled: fractions.Fraction) -> int:
+    """A whole number of 2048ths that is as good as this one. A code rate only chooses the base graph, by being at most 0.25 or 0.67
+    (6.2.2, 7.2.2). So the number below will do, unless it answers one of these differently, or is 0."""
+    below = math.floor(doubled)
+    same = all((below <= limit) == (doubled <= limit) for limit in _COMPARED)
+    return below if below == doubled or below and same else below + 1
 
 
 def _of_fraction(rate: fractions.Fraction) -> int:
-    """A code rate of more than 0 and at most 1 in 2048ths, of which it must be a whole number."""
-    doubled = 2048 * rate
+    """A code rate of more than 0 and at most 1 in 2048ths."""
     if not 0 < rate <= 1:
         raise ValueError(f"rate is {float(rate):g}, and not more than 0 and at most 1: rate1024= has it in 1024ths")
-    if doubled.denominator != 1:
-        below = int(doubled)
-        near = " and ".join(f"{it}/2048 = {it / 2048:.5f}" for it in (below, below + 1))
-        raise ValueError(f"rate is {float(rate):g}, and no whole number of 2048ths: next to it are {near}")
-    return int(doubled)
+    return _in_2048ths(2048 * rate)
 
 
 @functools.lru_cache(maxsize=256, typed=True)
 def _settings(rate2048: typing.Any, rate1024: typing.Any, rate: typing.Any, lbrm: typing.Any) -> SettingsStruct:
-    return SettingsStruct(rate_of(rate2048, rate1024, rate), number("lbrm", lbrm))
+    if lbrm is not None and number("lbrm", lbrm) == 0:
+        warnings.warn("lbrm=0 keeps no bit in a settings file: leave it out, or write None, for no limit", DeprecationWarning, 4)
+    return SettingsStruct(rate_of(rate2048, rate1024, rate), 0 if lbrm is None else number("lbrm", lbrm))
 
 
-def settings(rate2048: Rate2048, rate1024: Rate1024, rate: Rate, lbrm: Count) -> SettingsStruct:
+def settings(rate2048: Rate2048, rate1024: Rate1024, rate: Rate, lbrm: Limit) -> SettingsStruct:
     """The settings of a link. No call writes them, so that calls and threads may share them."""
     try:
         return _settings(rate2048, rate1024, rate, lbrm)  # type: ignore[arg-type]
@@ -138,6 +152,15 @@ def tx_struct(tx: typing.Optional[Tx]) -> TxStruct:
     return _tx_struct(tx)
 
 
+def threads_of(jobs: typing.Optional[typing.SupportsIndex]) -> int:
+    """How many threads work side by side: as many as there are cores if nothing is said."""
+    if jobs is None:
+        return len(os.sched_getaffinity(0))
+    if whole("jobs", jobs) < 1:
+        raise ValueError(f"jobs is {jobs}, and not 1 at least")
+    return whole("jobs", jobs)
+
+
 def plan_struct(rate2048: int, a: int) -> PlanStruct:
     """The numbers of a plan. If there is none, they are 0: the call that they are for tells then why."""
     numbers = PlanStruct()
@@ -145,28 +168,48 @@ def plan_struct(rate2048: int, a: int) -> PlanStruct:
     return numbers
 
 
-def view_of(given: typing.Any) -> memoryview:
-    """A buffer, whose items must be of one octet."""
+def view_of(given: typing.Any, name: str = "an argument") -> memoryview:
+    """A buffer, whose items must be of one octet. Errors name it."""
+    if isinstance(given, str):
+        raise TypeError(f"{name} is a str: octets are wanted, as by .encode()")
+    if hasattr(given, "filled") and hasattr(given, "mask"):
+        raise TypeError(f"{name} is a masked array, whose mask would be lost: .filled(nr.ERASED) makes erased places of it")
     view = memoryview(given)
     if view.format[-1:] in ("e", "f", "d", "g"):
-        raise TypeError("soft values are given: nr.hard(llrs, threshold) makes of them the places that are wanted")
+        raise TypeError(f"{name} has soft values: nr.hard(llrs, threshold) makes received and erased places of them")
     if view.itemsize > 1:  # (0 in an array of no row of ctypes, in Python 3.8)
-        raise TypeError(f"items of {view.itemsize} octets: make them of one, as by .astype(numpy.uint8)")
+        raise TypeError(f"{name} has items of {view.itemsize} octets: make them of one, as by .astype(numpy.uint8)")
     return view
 
 
-def octets_of(given: Octets) -> bytes:
+def _listed(given: typing.Sequence[typing.Any], name: str) -> bytes:
+    """The octets of a list of numbers; an error names the item."""
+    try:
+        return bytes(given)
+    except (TypeError, ValueError):
+        for at, it in enumerate(given):
+            said = f"item {at} of {name} is {it!r}, and not a whole number from 0 to 255"
+            if not hasattr(it, "__index__"):
+                raise TypeError(said) from None
+            if not 0 <= it <= 255:
+                raise ValueError(said) from None
+        raise
+
+
+def octets_of(given: Octets, name: str = "an argument") -> bytes:
     """The octets of a buffer, or of a list of numbers."""
     if isinstance(given, bytes):
         return given
-    return bytes(given) if isinstance(given, (list, tuple)) else view_of(given).tobytes()
+    return _listed(given, name) if isinstance(given, (list, tuple)) else view_of(given, name).tobytes()
 
 
-def warn_of_soft(places: bytes) -> None:
-    """Warns who called the library of items that are none of 0, 1 and ERASED."""
-    if places.translate(None, b"\0\1\2"):
-        said = "items other than 0, 1 and 2 count as places where nothing was heard: nr.hard(llrs, threshold) takes soft values"
-        warnings.warn(said, stacklevel=3)
+def warn_of_soft(places: bytes) -> bool:
+    """Warns who called the library of items that are none of 0, 1 and ERASED, and says whether it did."""
+    if not places.translate(None, b"\0\1\2"):
+        return False
+    said = "items other than 0, 1 and 2 count as erased places: nr.hard(llrs, threshold) takes soft values"
+    warnings.warn(said, stacklevel=3)
+    return True
 
 
 def whole_octets_of(given: Octets, callers: int = 1) -> bytes:
@@ -186,6 +229,8 @@ def warn_of_bits(octets: bytes, callers: int) -> None:
 
 def items_of(view: memoryview) -> bytes:
     """The items of a buffer of whole numbers, whichever of their octets comes first, as an octet each."""
+    if view.format[-1:] not in "?bBhHiIlLqQnN":
+        raise TypeError("bits is not an array of whole numbers: bits are items 0 or 1, as by .astype(numpy.uint8)")
     if view.itemsize == 1:
         return view.tobytes()
     return bytes(struct.unpack(f"{view.format[:-1]}{view.nbytes // view.itemsize}{view.format[-1]}", view.tobytes()))
@@ -193,11 +238,14 @@ def items_of(view: memoryview) -> bytes:
 
 def packed(given: Octets) -> bytes:
     """The octets of bits, which are items 0 or 1 of any whole type, the first bit of an octet highest."""
-    bits = bytes(given) if isinstance(given, (bytes, list, tuple)) else items_of(memoryview(given))  # type: ignore[arg-type]
+    if isinstance(given, (list, tuple)):
+        bits = _listed(given, "bits")
+    else:
+        bits = bytes(given) if isinstance(given, bytes) else items_of(memoryview(given))  # type: ignore[arg-type]
     if bits.translate(None, b"\0\1"):
-        raise Fault(BIT)
+        raise Error(BIT)
     if len(bits) % 8:
-        raise Fault(SIZE)
+        raise Error(SIZE)
     return int(bits.translate(_DIGITS) or b"0", 2).to_bytes(len(bits) // 8, "big")
 
 
@@ -212,7 +260,9 @@ def block_of(block: typing.Optional[Octets], bits: typing.Optional[Octets]) -> b
 
 def room_of(given: typing.Any) -> typing.Tuple[ctypes.c_char, int]:
     """A buffer's first octet, to be written with those after it, and how many there are: one piece of memory that can be."""
-    view = view_of(given)
+    view = memoryview(given)
+    if view.itemsize > 1:
+        raise TypeError(f"a buffer of {view.format!r} items of {view.itemsize} octets can't be written: take one of numpy.uint8")
     if view.readonly:
         raise TypeError("a buffer that can't be written")
     if not view.c_contiguous:
