@@ -4,7 +4,7 @@
 //! - in ../../../lib, where `make install` puts it beside this crate;
 //! - in ../out, where `make -C c` leaves it in a checkout.
 //!
-//! The practice table stands beside this file, or in a checkout in ../../examples.
+//! The practice table is beside this file, or in a checkout in two of ../../examples.
 
 use std::env;
 use std::path::{Path, PathBuf};
@@ -21,9 +21,13 @@ fn main() {
     println!("cargo:rerun-if-changed={}", folder.join("libnr.a").display());
     println!("cargo:rustc-link-search=native={}", folder.display());
     println!("cargo:rustc-link-lib=static=nr");
-    let practice = ["practice.csv", "../../examples/practice.csv"].map(|place| sources().join(place));
-    let found = practice.iter().find(|place| place.is_file()).unwrap_or(&practice[0]);
-    println!("cargo:rustc-env=NR_PRACTICE={}", found.display());
+    let installed = sources().join("practice.csv");
+    let examples = ["drawn.csv", "practice.csv"].map(|name| sources().join("../../examples").join(name));
+    let files = if installed.is_file() { vec![installed] } else { examples.to_vec() };
+    let texts = files.iter().map(|file| std::fs::read(file).expect("the practice table can be read"));
+    let practice = PathBuf::from(env::var_os("OUT_DIR").unwrap_or_default()).join("practice.csv");
+    std::fs::write(&practice, texts.collect::<Vec<_>>().concat()).expect("OUT_DIR can be written");
+    println!("cargo:rustc-env=NR_PRACTICE={}", practice.display());
 }
 
 /// The folder of this file.

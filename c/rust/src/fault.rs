@@ -1,11 +1,11 @@
-//! The refusals: the numbers and names of nr.h, each with a sentence.
+//! The errors: the numbers and names of nr.h, each with a sentence.
 
 use std::fmt;
 
 macro_rules! faults {
     ($(#[$about:meta])* $name:ident { $($number:literal $variant:ident $said:literal),* $(,)? }) => {
         $(#[$about])*
-        #[derive(Clone, Copy, Debug, PartialEq, Eq, Hash)]
+        #[derive(Clone, Copy, PartialEq, Eq, Hash)]
         #[non_exhaustive]
         pub enum $name {
             $(#[doc = $said] $variant,)*
@@ -31,6 +31,16 @@ macro_rules! faults {
             }
         }
 
+        /// The name and the sentence, which `main` then shows of an error that it returns.
+        impl fmt::Debug for $name {
+            fn fmt(&self, f: &mut fmt::Formatter<'_>) -> fmt::Result {
+                match self {
+                    $($name::$variant => f.write_str(concat!(stringify!($variant), ": ", $said)),)*
+                    $name::Unknown(other) => write!(f, "Unknown({other})"),
+                }
+            }
+        }
+
         impl fmt::Display for $name {
             fn fmt(&self, f: &mut fmt::Formatter<'_>) -> fmt::Result {
                 match self {
@@ -43,55 +53,60 @@ macro_rules! faults {
 }
 
 faults! {
-    /// Why a call refuses what it is given: the first cause in the order of nr.h. Those of a transmission have numbers from 50 on;
-    /// `Length`, the last of them, is named where it comes.
+    /// Why a call rejects its arguments: the first error that applies, in the order that each function lists.
     Fault {
-        1 Memory "the system gave no memory; the call may be made again",
-        2 Room "the buffer that is to be written does not have the length of the answer",
-        3 Many "there is more than the call takes",
-        5 Bit "an octet that stands for a bit is neither 0 nor 1",
-        6 Lifting "the code blocks of this base graph do not have this lifting size",
-        7 CodeBlock "there is no code block of this number, or of so many fillers",
-        8 State "the room is not of this table, block size and buffer, or has an octet that no call writes",
-        40 Size "a transport block has 8 to 1,310,720 bits in whole octets",
-        41 RateRange "the code rate is 1 to 2048 in 2048ths",
-        45 Uneven "the code blocks of this transport block would not be equally long (5.2.2)",
-        46 Graph "the table has no entries of the base graph, or there is none of this number",
-        47 NoBuffer "lbrm keeps no bit of a code block, or ncb is not 1 to N (5.4.2.1)",
-        50 Rv "the redundancy version is above 3",
-        51 Order "qm is none of 1, 2, 4, 6 and 8",
+        1 Memory "memory could not be allocated; the call may be repeated",
+        2 Room "an output array does not have the length of the result",
+        3 Many "there are more items than the call accepts",
+        5 Bit "a value that stands for a bit is neither 0 nor 1",
+        6 Lifting "no code block of this base graph has this lifting size",
+        7 CodeBlock "no code block has this index, or this number of filler bits",
+        8 State "the receiver's state was created for another table, block size or buffer limit, or it is corrupt",
+        40 Size "a transport block has 8 to 1,310,720 bits, a multiple of 8",
+        41 RateRange "the code rate is not 1 to 2048 in 2048ths",
+        45 Uneven "the code blocks of this transport block would differ in length (5.2.2)",
+        46 Graph "the table has no entries for the base graph, or there is no such base graph",
+        47 NoBuffer "lbrm leaves no bit of a code block in the buffer, or ncb is not 1 to N (5.4.2.1)",
+        50 Rv "rv is not 0 to 3",
+        51 Order "qm is not 1, 2, 4, 6 or 8",
         52 Layers "nl is not 1 to 4",
         53 Total "g is not 1 to 4,194,304",
-        54 Ragged "g is no multiple of qm * nl, or a code block's bits are none of qm",
+        54 Ragged "g is not a multiple of qm * nl, or a code block's bit count is not a multiple of qm",
         55 NoneScheduled "no code block of this transport block is scheduled",
-        56 Length "a list does not have the length that it should: K' or N bits of a code block, or G places of a transmission",
+        56 Length "an input array does not have the required length",
     }
 }
 
 faults! {
-    /// Why a text is no shift table.
+    /// Why a text is not a shift table.
     TableCause {
-        1 Memory "the system gave no memory; the call may be made again",
-        21 Csv "record {place} of the table has another number of fields than record 1",
+        1 Memory "memory could not be allocated; the call may be repeated",
+        21 Csv "record {place} of the table does not have as many fields as record 1",
         22 Fields "record 1 of the table does not have eleven fields",
         23 Number "a field of record {place} of the table is not 1 to 10 decimal digits",
-        24 Range "a number in record {place} of the table is outside its range",
-        25 Twice "the base graph, row and column of record {place} of the table stand in an earlier record",
-        26 Core "rows 0 to 3 of base graph {place} do not have the core's shape",
-        27 Extension "a row from 4 on of base graph {place} does not have a zero shift at its own column alone",
-        28 MissingRow "base graph {place} lacks a row",
-        29 Empty "the table has no entry",
-        30 TooLong "the table's text has more than 4,194,304 octets",
+        24 Range "a number in record {place} of the table is out of range",
+        25 Twice "record {place} of the table has the base graph, row and column of an earlier record",
+        26 Core "rows 0 to 3 of base graph {place} do not have the shape of the standard's",
+        27 Extension "a row i >= 4 of base graph {place} does not end in a single zero shift, at column n + i (n = 22 or 10)",
+        28 MissingRow "base graph {place} has a row without an entry",
+        29 Empty "the table has no entries",
+        30 TooLong "the table's text is longer than 4,194,304 octets",
     }
 }
 
-/// Why a text is no shift table, and where.
-#[derive(Clone, Copy, Debug, PartialEq, Eq, Hash)]
+/// Why a text is not a shift table, and where.
+#[derive(Clone, Copy, PartialEq, Eq, Hash)]
 pub struct TableFault {
     /// The cause.
     pub cause: TableCause,
-    /// The record, from 1, or the base graph that the cause is of; else 0.
+    /// The record, from 1, or the base graph in which it is; else 0.
     pub place: u32,
+}
+
+impl fmt::Debug for TableFault {
+    fn fmt(&self, f: &mut fmt::Formatter<'_>) -> fmt::Result {
+        f.write_str(&format!("{:?}", self.cause).replace("{place}", &self.place.to_string()))
+    }
 }
 
 impl fmt::Display for TableFault {

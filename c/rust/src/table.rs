@@ -17,18 +17,18 @@ pub struct Entry {
     pub values: [u16; 8],
 }
 
-/// A shift table that is accepted, read from its text once for as many calls as you like.
+/// A shift table, read from its text once for any number of calls.
 #[derive(Clone, Debug, PartialEq, Eq)]
 pub struct Table {
     entries: Vec<Entry>,
 }
 
 impl Table {
-    /// Reads the text of a shift table: comma-separated values, a record for each entry. A record has the base graph, the row, the
-    /// column and the values of the sets 0 to 7.
+    /// Reads the text of a shift table: comma-separated values, with a record for each entry. A record has the base
+    /// graph, the row, the column and the shift values of the sets 0 to 7.
     ///
     /// # Errors
-    /// The text's first fault, with its place.
+    /// The text's first error, with its place.
     pub fn read(text: &[u8]) -> Result<Table, TableFault> {
         let mut report = raw::Report::default();
         // SAFETY: the text is read over its length, and the report is one that can be written.
@@ -37,15 +37,13 @@ impl Table {
         let mut entries = vec![Entry::default(); report.one as usize + report.two as usize];
         let mut count = 0;
         // SAFETY: as above; the entries are written over their length, and overlap nothing.
-        let status = unsafe {
-            raw::nr_table_entries(text.as_ptr(), text.len(), entries.as_mut_ptr(), entries.len(), &mut count)
-        };
+        let status = unsafe { raw::nr_table_entries(text.as_ptr(), text.len(), entries.as_mut_ptr(), entries.len(), &mut count) };
         judge(status, 0)?;
         Ok(Table { entries })
     }
 
-    /// The practice table, which comes with the crate: base graph 2 alone, with values that are not the published ones. Those are
-    /// read from the text of TS 38.212 by `linksim-table read`, or `python -m nr.table read`.
+    /// The practice table, which comes with the crate: both base graphs, with random shift values in place of the
+    /// published ones. Those are read from the text of TS 38.212 by `linksim-table read` or `python -m nr.table read`.
     #[must_use]
     pub fn practice() -> Table {
         Table::read(include_bytes!(env!("NR_PRACTICE"))).expect("the practice table is accepted")

@@ -2,10 +2,10 @@
 //! shifted by i. So the wanted bits follow by hand.
 
 use nr::{
-    buffer, codeword, crc, cut, encode, erase, interleave, lengths, plan, rate_match, receive, receive_many, select,
-    send, send_into, send_many, simulate,
+    buffer, codeword, crc, cut, encode, erase, interleave, join, lengths, places, plan, rate_match, receive, receive_many,
+    receive_packed, select, send, send_into, send_many, send_packed, simulate,
 };
-use nr::{Fault, Match, Outcome, Poly, Receiver, Settings, Table, TableCause, Tx, ERASED, FILLER};
+use nr::{Fault, Joined, Match, Outcome, Poly, Receiver, Settings, Table, TableCause, Tx, ERASED, FILLER};
 
 const LINK: Settings = Settings::new(2048);
 
@@ -109,6 +109,38 @@ fn the_stages_of_a_code_block() {
     assert_eq!(rate_match(&numbers, &d, 25), Err(Fault::Ragged));
 }
 
+/// 40 places of a code block of 24 bits, of which the first 16 of d stand before 16 fillers (rv 0), as they are sent.
+#[test]
+fn a_soft_receiver_finds_and_joins() {
+    let (table, tx) = (table(), Tx::new(40, 2));
+    let (found, d) = (places(&LINK, 8, &tx).unwrap(), codeword(&table, 2048, 8, &bits("011021")).unwrap());
+    let sent = send(&table, &LINK, &[1], &tx).unwrap();
+    assert_eq!(found.iter().map(|&at| d[at as usize]).collect::<Vec<_>>(), sent);
+    assert_eq!(&found[..6], [0, 36, 1, 37, 2, 38]);
+    assert_eq!(places(&LINK, 8, &Tx::new(25, 2)), Err(Fault::Ragged));
+    let joined = Joined { block: vec![1], block_passed: true, passed: vec![true] };
+    assert_eq!(join(2048, 8, &cut(2048, &[1], 0).unwrap()), Ok(joined));
+    let wrong = join(2048, 8, &bits("011020")).unwrap();
+    assert_eq!((wrong.block, wrong.block_passed, wrong.passed), (vec![1], false, vec![false]));
+    assert_eq!(join(2048, 8, &[0; 23]), Err(Fault::Length));
+    assert_eq!(join(2048, 8, &[2; 24]), Err(Fault::Bit));
+}
+
+#[test]
+fn packed_forms_are_the_others() {
+    let (table, tx) = (table(), Tx::new(186, 2));
+    let sent = send(&table, &LINK, &[1], &tx).unwrap();
+    let octets: Vec<u8> = sent.chunks(8).map(|it| it.iter().fold(0, |at, bit| at << 1 | bit) << (8 - it.len())).collect();
+    assert_eq!(send_packed(&table, &LINK, &[1], &tx), Ok(octets.clone()));
+    let mut known = vec![0xff; octets.len()];
+    known[0] = 0x0f;
+    let mut heard = sent;
+    heard[..4].fill(ERASED);
+    let found = receive_packed(&table, &LINK, 8, &[(tx, &octets, &known)]);
+    assert_eq!(found, receive(&table, &LINK, 8, &[(tx, &heard)]));
+    assert_eq!(receive_packed(&table, &LINK, 8, &[(tx, &octets, &known[1..])]), Err(Fault::Length));
+}
+
 #[test]
 fn places_are_erased_where_they_are_drawn() {
     // the first words of the generator from seed 42
@@ -179,7 +211,7 @@ fn refusals_are_told() {
     let mut room = [7; 23];
     assert_eq!(send_into(&table, &LINK, &[1], &Tx::new(24, 1), &mut room), Err(Fault::Room));
     assert_eq!(room, [7; 23]);
-    assert!(Fault::Ragged.to_string().starts_with("g is no multiple of qm * nl, or "));
+    assert!(Fault::Ragged.to_string().starts_with("g is not a multiple of qm * nl, or "));
 }
 
 #[test]
@@ -189,7 +221,9 @@ fn a_table_that_is_none_says_where() {
     assert_eq!(fault.to_string(), "a field of record 3 of the table is not 1 to 10 decimal digits");
     assert_eq!(Table::read(b"").unwrap_err().cause, TableCause::Empty);
     assert_eq!(table().entries().len(), 105);
-    assert_eq!(Table::practice(), table());
+    assert_eq!(Table::practice().entries()[316..], *table().entries());
+    let said = format!("{:?} {fault:?}", Fault::Layers);
+    assert_eq!(said, "Layers: nl is not 1 to 4 Number: a field of record 3 of the table is not 1 to 10 decimal digits");
 }
 
 #[test]
