@@ -1,4 +1,4 @@
-/* Octave's and MATLAB's arrays as the library takes them, and its refusals as errors of theirs: for nr_mex.c alone.
+/* Octave's and MATLAB's arrays as the library takes them, and its errors as theirs: for nr_mex.c alone.
 
    Bits are columns, logical or double. What memory a call takes by mxMalloc goes back by itself, also where the call ends with
    an error. */
@@ -37,9 +37,21 @@ static void judge(uint32_t status, uint32_t place) {
         mexErrMsgIdAndTxt(id, "%s: %s", nr_fault_name(status), said);
 }
 
+/* The same of a call over a transport block of `a` bits: names the base graph that the table lacks, and the sizes that will do. */
+static void judge_block(uint32_t status, uint32_t rate2048, uint32_t a) {
+    NrPlan plan;
+    if (status == NR_ERR_GRAPH && nr_plan(rate2048, a, &plan) == NR_OK)
+        mexErrMsgIdAndTxt("nr:Graph", "Graph: the table has no entries for base graph %u, which this size and rate take",
+                          (unsigned)plan.graph);
+    if (status == NR_ERR_UNEVEN)
+        mexErrMsgIdAndTxt("nr:Uneven", "Uneven: the code blocks of %u bits would differ in length (5.2.2); nr_near(%u, RATE) has "
+                          "sizes that will do", (unsigned)a, (unsigned)a);
+    judge(status, 0);
+}
+
 static void wrong(const char *said) { mexErrMsgIdAndTxt("nr:argument", "argument: %s", said); }
 
-/* Ends the call with the error of a list that does not have the length that it should. */
+/* Ends the call with the error of a list of another length. */
 static void wrong_length(const char *what, size_t turn, size_t found, size_t wanted) {
     mexErrMsgIdAndTxt("nr:Length", "Length: %s %u has the length %u, and not %u", what, (unsigned)turn, (unsigned)found,
                       (unsigned)wanted);
@@ -71,7 +83,7 @@ static const NrEntry *entries(const mxArray *given, size_t *count) {
     return (const NrEntry *)mxGetData(given);
 }
 
-/* What else than 0 and 1 is a bit: nothing, NaN for NR_ERASED, or -1 for NR_FILLER. */
+/* What else than 0 and 1 is a bit: nothing, NaN for NR_BIT_ERASED, or -1 for NR_BIT_FILLER. */
 enum also { NOTHING_ELSE, ERASED_TOO, FILLERS_TOO };
 
 /* The bits of an array, an octet each. */
@@ -86,9 +98,9 @@ static uint8_t *bits_of(const mxArray *given, enum also also) {
         if (value == 0 || value == 1)
             bits[at] = (uint8_t)value;
         else if (also == ERASED_TOO && isnan(value))
-            bits[at] = NR_ERASED;
+            bits[at] = NR_BIT_ERASED;
         else if (also == FILLERS_TOO && value == FILLER)
-            bits[at] = NR_FILLER;
+            bits[at] = NR_BIT_FILLER;
         else
             wrong(wanted[also]);
     }
@@ -100,7 +112,7 @@ static uint8_t *octets_of(const mxArray *given, size_t *count) {
     size_t bits = mxGetNumberOfElements(given);
     const uint8_t *each = bits_of(given, NOTHING_ELSE);
     uint8_t *octets = mxCalloc(bits / 8 + 1, 1);
-    if (bits % 8) judge(NR_SIZE, 0);
+    if (bits % 8) judge(NR_ERR_SIZE, 0);
     for (size_t at = 0; at < bits; at++) octets[at / 8] |= (uint8_t)(each[at] << (7 - at % 8));
     *count = bits / 8;
     return octets;
@@ -164,7 +176,7 @@ static uint8_t *bits_in(const uint8_t *octets, size_t count) {
 
 /* A transport block of `a` bits, if it is delivered, as a column of the class that another array has; else an empty array. */
 static mxArray *block_of(uint32_t outcome, const uint8_t *octets, uint32_t a, const mxArray *like) {
-    return outcome == NR_DELIVERED ? column(bits_in(octets, a), a, like) : mxCreateDoubleMatrix(0, 0, mxREAL);
+    return outcome == NR_OUTCOME_DELIVERED ? column(bits_in(octets, a), a, like) : mxCreateDoubleMatrix(0, 0, mxREAL);
 }
 
 /* Item `at` of a cell, or an error. */

@@ -4,7 +4,7 @@ function [ncb, k0] = nr_buffer(a, rate, rv, lbrm)
 %
 % nr_buffer(A, RATE, RV, LBRM) limits the buffer by TBS_LBRM = LBRM bits.
 if nargin < 4
-  lbrm = 0;
+  lbrm = [];
 end
 [ncb, k0] = nr_call('buffer', nr_link(rate, lbrm), a, rv);
 end

@@ -18,10 +18,23 @@ static void make_entries(mxArray **out, const mxArray **in) {
 static void make_plan(mxArray **out, const mxArray **in) {
     static const char *names[] = {"graph", "b", "l", "c", "kdash", "kb", "z", "set", "k", "n"};
     NrPlan plan;
-    judge(nr_plan(number(in[0], 0, "the code rate in 2048ths"), number(in[1], 0, "a"), &plan), 0);
+    uint32_t rate = number(in[0], 0, "the code rate in 2048ths"), a = number(in[1], 0, "a");
+    judge_block(nr_plan(rate, a, &plan), rate, a);
     const uint32_t numbers[] = {plan.graph, plan.b, plan.l, plan.c, plan.kdash, plan.kb, plan.z, plan.set, plan.k, plan.n};
     out[0] = mxCreateStructMatrix(1, 1, 10, names);
     for (int at = 0; at < 10; at++) mxSetField(out[0], 0, names[at], mxCreateDoubleScalar(numbers[at]));
+}
+
+/* nr_mex('near', RATE2048, A): the sizes next to A that can be segmented, below and above, 0 for none. */
+static void make_near(mxArray **out, const mxArray **in) {
+    uint32_t rate = number(in[0], 0, "the code rate in 2048ths"), a = number(in[1], 0, "a"), sizes[2];
+    NrPlan plan;
+    sizes[0] = (a < MOST_BITS ? a : MOST_BITS) / 8 * 8;
+    while (sizes[0] && nr_plan(rate, sizes[0], &plan)) sizes[0] -= 8;
+    sizes[1] = a < 8 ? 8 : a < MOST_BITS ? (a + 7) / 8 * 8 : a;
+    while (sizes[1] <= MOST_BITS && nr_plan(rate, sizes[1], &plan)) sizes[1] += 8;
+    if (sizes[1] > MOST_BITS) sizes[1] = 0;
+    out[0] = numbers_of(sizes, 2);
 }
 
 /* C, or 0 of a block that has no plan: the call that it is for tells then why. */
@@ -35,7 +48,7 @@ static void make_lengths(mxArray **out, const mxArray **in) {
     uint32_t rate = number(in[0], 0, "the code rate in 2048ths"), a = number(in[1], 0, "a");
     uint32_t c = code_blocks(rate, a), lengths[344];
     NrTx tx = one_tx(in[2], in[3]);
-    judge(nr_lengths(rate, a, &tx, lengths, c), 0);
+    judge_block(nr_lengths(rate, a, &tx, lengths, c), rate, a);
     out[0] = numbers_of(lengths, c);
 }
 
@@ -52,7 +65,7 @@ static void make_buffer(int outs, mxArray **out, const mxArray **in) {
 static void make_crc(mxArray **out, const mxArray **in) {
     uint32_t poly = number(in[0], 0, "the polynomial"), parity;
     uint8_t bits[24];
-    size_t length, count = poly == NR_CRC16 ? 16 : 24;
+    size_t length, count = poly == NR_POLY_CRC16 ? 16 : 24;
     const uint8_t *octets = block_octets_of(in[1], &length);
     judge(nr_crc(poly, octets, length, &parity), 0);
     for (size_t at = 0; at < count; at++) bits[at] = parity >> (count - 1 - at) & 1;
@@ -67,13 +80,13 @@ static void make_codeword(mxArray **out, const mxArray **in) {
     const uint8_t *bits = bits_of(in[3], NOTHING_ELSE);
     uint8_t *word;
     NrPlan plan;
-    judge(nr_plan(rate, a, &plan), 0);
+    judge_block(nr_plan(rate, a, &plan), rate, a);
     word = mxMalloc(plan.n);
     out[0] = mxCreateDoubleMatrix(plan.n, columns, mxREAL);
     for (size_t at = 0; at < columns; at++) {
-        judge(nr_codeword(table, count, rate, a, bits + at * rows, rows, word, plan.n), 0);
+        judge_block(nr_codeword(table, count, rate, a, bits + at * rows, rows, word, plan.n), rate, a);
         for (size_t bit = 0; bit < plan.n; bit++)
-            mxGetPr(out[0])[at * plan.n + bit] = word[bit] == NR_FILLER ? FILLER : word[bit];
+            mxGetPr(out[0])[at * plan.n + bit] = word[bit] == NR_BIT_FILLER ? FILLER : word[bit];
     }
 }
 
@@ -85,12 +98,12 @@ static void make_encoded(mxArray **out, const mxArray **in) {
     size_t information = graph == 1 ? 22 : 10, z = rows / information, coded = (graph == 1 ? 66 : 50) * z;
     const uint8_t *bits = bits_of(in[2], FILLERS_TOO);
     uint8_t *word = mxMalloc(coded + 1);
-    if (rows % information || z > 384) judge(NR_LIFTING, 0);
+    if (rows % information || z > 384) judge(NR_ERR_LIFTING, 0);
     out[0] = mxCreateDoubleMatrix(coded, columns, mxREAL);
     for (size_t at = 0; at < columns; at++) {
         judge(nr_encode(table, count, graph, (uint32_t)z, bits + at * rows, rows, word, coded), 0);
         for (size_t bit = 0; bit < coded; bit++)
-            mxGetPr(out[0])[at * coded + bit] = word[bit] == NR_FILLER ? FILLER : word[bit];
+            mxGetPr(out[0])[at * coded + bit] = word[bit] == NR_BIT_FILLER ? FILLER : word[bit];
     }
 }
 
@@ -103,12 +116,12 @@ static void make_matched(mxArray **out, const mxArray **in) {
     size_t coded = graph == 1 ? 66 : 50, z = rows / coded;
     size_t e = wanted <= MOST_PLACES ? wanted : MOST_PLACES + 1;
     uint8_t *bits = mxMalloc(e + 1);
-    if (rows % coded || z > 384) judge(NR_LIFTING, 0);
+    if (rows % coded || z > 384) judge(NR_ERR_LIFTING, 0);
     by.z = (uint32_t)z;
     out[0] = mxCreateDoubleMatrix(e, columns, mxREAL);
     for (size_t at = 0; at < columns; at++) {
         by.fillers = 0;
-        for (size_t n = 0; n < rows; n++) by.fillers += words[at * rows + n] == NR_FILLER;
+        for (size_t n = 0; n < rows; n++) by.fillers += words[at * rows + n] == NR_BIT_FILLER;
         judge(nr_match(&by, words + at * rows, rows, bits, e), 0);
         for (size_t k = 0; k < e; k++) mxGetPr(out[0])[at * e + k] = bits[k];
     }
@@ -117,14 +130,15 @@ static void make_matched(mxArray **out, const mxArray **in) {
 /* nr_mex('cut', RATE2048, BLOCK): the K' bits of each code block, a column each, of BLOCK's class. */
 static void make_cut(mxArray **out, const mxArray **in) {
     size_t length;
-    uint32_t rate = number(in[0], 0, "the code rate in 2048ths");
+    uint32_t rate = number(in[0], 0, "the code rate in 2048ths"), a;
     const uint8_t *block = block_octets_of(in[1], &length);
     uint8_t *all;
     NrPlan plan;
-    judge(nr_plan(rate, length < MOST_BITS / 8 + 1 ? (uint32_t)(8 * length) : UINT32_MAX, &plan), 0);
+    a = length <= MOST_BITS / 8 ? (uint32_t)(8 * length) : UINT32_MAX;
+    judge_block(nr_plan(rate, a, &plan), rate, a);
     all = mxMalloc((size_t)plan.c * plan.kdash);
     for (uint32_t r = 0; r < plan.c; r++)
-        judge(nr_cut(rate, block, length, r, all + (size_t)r * plan.kdash, plan.kdash), 0);
+        judge_block(nr_cut(rate, block, length, r, all + (size_t)r * plan.kdash, plan.kdash), rate, a);
     out[0] = columns(all, plan.kdash, plan.c, in[1]);
 }
 
@@ -137,7 +151,7 @@ static void make_sent(mxArray **out, const mxArray **in) {
     NrTx tx = one_tx(in[3], in[4]);
     size_t room = tx.g < MOST_PLACES ? tx.g : MOST_PLACES;
     uint8_t *bits = mxMalloc(room + 1);
-    judge(nr_send(table, count, &settings, block, length, &tx, bits, room), 0);
+    judge_block(nr_send(table, count, &settings, block, length, &tx, bits, room), settings.rate2048, (uint32_t)(8 * length));
     out[0] = column(bits, room, in[2]);
 }
 
@@ -150,10 +164,11 @@ static void make_many_sent(mxArray **out, const mxArray **in) {
     const uint8_t *octets = octets_of(in[2], &length);
     NrTx *txs = txs_of(in[3], in[4], &some);
     uint8_t *bits;
-    if (rows > MOST_BITS) judge(NR_SIZE, 0);
+    if (rows > MOST_BITS) judge(NR_ERR_SIZE, 0);
     for (size_t at = 0; at < some; at++) room += txs[at].g < MOST_PLACES ? txs[at].g : MOST_PLACES;
     bits = mxMalloc(room * blocks + 1);
-    judge(nr_send_many(table, count, &settings, (uint32_t)rows, txs, some, blocks, octets, length, bits, room * blocks), 0);
+    judge_block(nr_send_many(table, count, &settings, (uint32_t)rows, txs, some, blocks, octets, length, bits, room * blocks),
+                settings.rate2048, (uint32_t)rows);
     out[0] = columns(bits, room, blocks, in[2]);
 }
 
@@ -185,9 +200,9 @@ static void make_received(int outs, mxArray **out, const mxArray **in) {
     uint32_t a = number(in[2], 0, "a"), c = code_blocks(settings.rate2048, a), *outcomes = mxMalloc(4 * (some + 1)), left[344];
     uint8_t *heard, *octets = mxMalloc(MOST_BITS / 8);
     heard = joined(in[5], txs, some, &total);
-    judge(nr_receive(table, count, &settings, a, txs, some, heard, total, outcomes, some, left, c, octets,
-                     (a < MOST_BITS ? a : MOST_BITS) / 8), 0);
-    out[0] = block_of(some ? outcomes[some - 1] : NR_OPEN, octets, a, some ? in_cell(in[5], 0) : NULL);
+    judge_block(nr_receive(table, count, &settings, a, txs, some, heard, total, outcomes, some, left, c, octets,
+                           (a < MOST_BITS ? a : MOST_BITS) / 8), settings.rate2048, a);
+    out[0] = block_of(some ? outcomes[some - 1] : NR_OUTCOME_OPEN, octets, a, some ? in_cell(in[5], 0) : NULL);
     if (outs > 1) out[1] = numbers_of(outcomes, some);
     if (outs > 2) out[2] = numbers_of(left, c);
 }
@@ -203,8 +218,9 @@ static void make_many_received(int outs, mxArray **out, const mxArray **in) {
     uint32_t *left = mxMalloc(4 * (c * blocks + 1));
     size_t size = (a < MOST_BITS ? a : MOST_BITS) / 8;
     uint8_t *octets = mxCalloc(size * blocks + 1, 1);
-    judge(nr_receive_many(table, count, &settings, a, txs, some, blocks, bits_of(in[5], ERASED_TOO), mxGetNumberOfElements(in[5]),
-                          outcomes, some * blocks, left, c * blocks, octets, size * blocks), 0);
+    judge_block(nr_receive_many(table, count, &settings, a, txs, some, blocks, bits_of(in[5], ERASED_TOO),
+                                mxGetNumberOfElements(in[5]), outcomes, some * blocks, left, c * blocks, octets, size * blocks),
+                settings.rate2048, a);
     out[0] = columns(bits_in(octets, 8 * size * blocks), a, blocks, in[5]);
     if (outs > 1) out[1] = shaped(outcomes, some, blocks, 1);
     if (outs > 2) out[2] = shaped(left, c, blocks, 1);
@@ -216,9 +232,9 @@ static void make_started(mxArray **out, const mxArray **in) {
     const NrEntry *table = entries(in[0], &count);
     NrSettings settings = settings_of(in[1]);
     uint32_t a = number(in[2], 0, "a");
-    judge(nr_receiver_size(settings.rate2048, a, &octets), 0);
+    judge_block(nr_receiver_size(settings.rate2048, a, &octets), settings.rate2048, a);
     out[0] = mxCreateNumericMatrix(octets, 1, mxUINT8_CLASS, mxREAL);
-    judge(nr_receiver_start(table, count, &settings, a, (uint8_t *)mxGetData(out[0]), octets), 0);
+    judge_block(nr_receiver_start(table, count, &settings, a, (uint8_t *)mxGetData(out[0]), octets), settings.rate2048, a);
 }
 
 /* [ROOM, BLOCK, OUTCOME, LEFT] = nr_mex('take', TABLE, [RATE2048 LBRM], A, ROOM, NUMBERS, BLOCKS, HEARD): the room with one
@@ -227,15 +243,15 @@ static void make_taken(int outs, mxArray **out, const mxArray **in) {
     size_t count, places = mxGetNumberOfElements(in[6]);
     const NrEntry *table = entries(in[0], &count);
     NrSettings settings = settings_of(in[1]);
-    uint32_t a = number(in[2], 0, "a"), c = code_blocks(settings.rate2048, a), outcome = NR_OPEN, left[344];
+    uint32_t a = number(in[2], 0, "a"), c = code_blocks(settings.rate2048, a), outcome = NR_OUTCOME_OPEN, left[344];
     NrTx tx = one_tx(in[4], in[5]);
     uint8_t *octets = mxMalloc(MOST_BITS / 8);
     if (!mxIsUint8(in[3])) wrong("the room of a receiver is an array of uint8");
     if (places != tx.g) wrong_length("what was heard of transmission", 1, places, tx.g);
     out[0] = mxDuplicateArray(in[3]);
-    judge(nr_receiver_take(table, count, &settings, a, (uint8_t *)mxGetData(out[0]), mxGetNumberOfElements(out[0]), &tx,
-                           bits_of(in[6], ERASED_TOO), places, &outcome, left, c, octets,
-                           (a < MOST_BITS ? a : MOST_BITS) / 8), 0);
+    judge_block(nr_receiver_take(table, count, &settings, a, (uint8_t *)mxGetData(out[0]), mxGetNumberOfElements(out[0]), &tx,
+                                 bits_of(in[6], ERASED_TOO), places, &outcome, left, c, octets,
+                                 (a < MOST_BITS ? a : MOST_BITS) / 8), settings.rate2048, a);
     if (outs > 1) out[1] = block_of(outcome, octets, a, in[6]);
     if (outs > 2) out[2] = mxCreateDoubleScalar(outcome);
     if (outs > 3) out[3] = numbers_of(left, c);
@@ -256,12 +272,14 @@ static void make_simulated(int outs, mxArray **out, const mxArray **in) {
     length = rounds * some * c;
     left = mxMalloc(4 * (length + 1));
     erased = mxMalloc(4 * (length + 1));
-    judge(nr_simulate(table, count, &settings, a, txs, some, thresholds, some, seeds, seeds_len, after, rounds, left, length,
-                      erased, length), 0);
+    judge_block(nr_simulate(table, count, &settings, a, txs, some, thresholds, some, seeds, seeds_len, after, rounds, left, length,
+                            erased, length), settings.rate2048, a);
     out[0] = numbers_of(after, rounds);
     if (outs > 1) out[1] = shaped(left, c, some, rounds);
     if (outs > 2) out[2] = shaped(erased, c, some, rounds);
 }
+
+#include "nr_soft.h"
 
 #define CALL(name, ins, call) \
     if (!strcmp(said, name) && given == (ins) + 1) { \
@@ -275,6 +293,7 @@ void mexFunction(int outs, mxArray **out, int given, const mxArray **words) {
     if (given) mxGetString(words[0], said, sizeof said);
     CALL("entries", 1, make_entries(out, in))
     CALL("plan", 2, make_plan(out, in))
+    CALL("near", 2, make_near(out, in))
     CALL("lengths", 4, make_lengths(out, in))
     CALL("buffer", 3, make_buffer(outs, out, in))
     CALL("crc", 2, make_crc(out, in))
@@ -282,6 +301,8 @@ void mexFunction(int outs, mxArray **out, int given, const mxArray **words) {
     CALL("encode", 3, make_encoded(out, in))
     CALL("match", 6, make_matched(out, in))
     CALL("cut", 2, make_cut(out, in))
+    CALL("places", 4, make_places(out, in))
+    CALL("join", 3, make_joined(outs, out, in))
     CALL("send", 5, make_sent(out, in))
     CALL("receive", 6, make_received(outs, out, in))
     CALL("send_many", 5, make_many_sent(out, in))

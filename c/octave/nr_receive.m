@@ -8,7 +8,7 @@ function [block, outcomes, left] = nr_receive(table, a, rate, txs, heard, lbrm)
 %
 % nr_receive(TABLE, A, RATE, TXS, HEARD, LBRM) limits the circular buffer by TBS_LBRM = LBRM bits (5.4.2.1).
 if nargin < 6
-  lbrm = 0;
+  lbrm = [];
 end
 if ~iscell(heard)
   heard = {heard};

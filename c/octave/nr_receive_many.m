@@ -7,7 +7,7 @@ function [blocks, outcomes, left] = nr_receive_many(table, a, rate, txs, heard, 
 %
 % nr_receive_many(TABLE, A, RATE, TXS, HEARD, LBRM) limits the circular buffer by TBS_LBRM = LBRM bits (5.4.2.1).
 if nargin < 6
-  lbrm = 0;
+  lbrm = [];
 end
 [numbers, scheduled] = nr_tx(txs);
 if size(heard, 1) ~= sum(numbers(2, :))

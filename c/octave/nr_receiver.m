@@ -4,7 +4,7 @@ function receiver = nr_receiver(table, a, rate, lbrm)
 %
 % nr_receiver(TABLE, A, RATE, LBRM) limits the circular buffer by TBS_LBRM = LBRM bits (TS 38.212, 5.4.2.1).
 if nargin < 4
-  lbrm = 0;
+  lbrm = [];
 end
 link = nr_link(rate, lbrm);
 receiver = struct('a', a, 'link', link, 'room', nr_call('start', table, link, a));

@@ -6,7 +6,7 @@ function bits = nr_send(table, block, rate, tx, lbrm)
 %
 % nr_send(TABLE, BLOCK, RATE, TX, LBRM) limits the circular buffer by TBS_LBRM = LBRM bits (5.4.2.1).
 if nargin < 5
-  lbrm = 0;
+  lbrm = [];
 end
 [numbers, blocks] = nr_tx(tx);
 bits = nr_call('send', table, nr_link(rate, lbrm), block, numbers, blocks);

@@ -5,7 +5,7 @@ function bits = nr_send_many(table, blocks, rate, txs, lbrm)
 %
 % nr_send_many(TABLE, BLOCKS, RATE, TXS, LBRM) limits the circular buffer by TBS_LBRM = LBRM bits (5.4.2.1).
 if nargin < 5
-  lbrm = 0;
+  lbrm = [];
 end
 [numbers, scheduled] = nr_tx(txs);
 bits = nr_call('send_many', table, nr_link(rate, lbrm), blocks, numbers, scheduled);

@@ -12,7 +12,7 @@ function [after, left, erased] = nr_simulate(table, a, rate, txs, p, seeds, lbrm
 %
 % nr_simulate(TABLE, A, RATE, TXS, P, SEEDS, LBRM) limits the circular buffer by TBS_LBRM = LBRM bits (TS 38.212, 5.4.2.1).
 if nargin < 7
-  lbrm = 0;
+  lbrm = [];
 end
 nr_wanted(isnumeric(p) && isreal(p) && any(numel(p) == [1 numel(txs)]) && all(p(:) >= 0 & p(:) <= 1), ...
   'P is a probability from 0 to 1, or one for each transmission');
