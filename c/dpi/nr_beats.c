@@ -66,13 +66,22 @@ uint32_t nr_golden_block(void *golden, uint32_t r, NrBuffer *buffer, uint32_t *e
     return NR_OK;
 }
 
+uint32_t nr_golden_place(void *golden, uint32_t m, uint32_t *r, uint32_t *n) {
+    NrStaged *it = (NrStaged *)nr_held(golden, NR_KIND_GOLDEN);
+    if (!it) return NR_GOLDEN_HANDLE;
+    if (!it->stages.memory || m >= it->stages.sent) return NR_GOLDEN_BEAT;
+    *r = it->stages.places[m] / it->stages.plan.n;
+    *n = it->stages.places[m] % it->stages.plan.n;
+    return NR_OK;
+}
+
 /* Makes a beat of `count` bits that are there. */
 static void fill(const NrStaged *it, const NrPlace *place, const uint8_t *bits, uint32_t count, NrBeat *beat) {
     uint32_t all = 0;
     memset(beat, 0, sizeof *beat);
     for (uint32_t i = 0; i < count; i++) {
         uint32_t lane = nr_lane(place, i);
-        if (bits[i]) set(bits[i] == NR_FILLER ? beat->filler : beat->data, lane);
+        if (bits[i]) set(bits[i] == NR_BIT_FILLER ? beat->filler : beat->data, lane);
         set(beat->keep, lane / 8);
     }
     nr_stage_of(&it->stages, place->stage, place->r, &all);
@@ -128,7 +137,7 @@ uint32_t nr_golden_judge(void *golden, const NrPlace *place, const uint32_t *dat
     if (!count) return one_too_many(it, place);
     for (uint32_t i = 0; i < count; i++) {
         uint32_t lane = nr_lane(place, i), bit = place->beat * place->width + i;
-        if (bits[i] == NR_FILLER || (nr_bit(data, lane) == bits[i] && !nr_bit(unknown, lane))) continue;
+        if (bits[i] == NR_BIT_FILLER || (nr_bit(data, lane) == bits[i] && !nr_bit(unknown, lane))) continue;
         const char *is = nr_bit(unknown, lane) ? "X or Z" : nr_bit(data, lane) ? "1" : "0";
         return differs(it, place, bit, "bit %u is %s, right is %u (beat %u, tdata[%u])", bit, is, bits[i], place->beat, lane);
     }

@@ -48,7 +48,6 @@ void *nr_held_taken(void **handle, enum NrKind kind) {
 
 const char *nr_golden_fault_name(uint32_t status) {
     switch (status) {
-    case NR_GOLDEN_LAYOUT: return "Layout";
     case NR_GOLDEN_HANDLE: return "Handle";
     case NR_GOLDEN_HEX: return "Hex";
     case NR_GOLDEN_WIDTH: return "Width";
@@ -74,13 +73,13 @@ enum { MOST_TEXT = 4194304 + 1 };
 /* The text of a file. */
 static uint32_t text_of(const char *path, uint8_t **text, size_t *length) {
     FILE *file = fopen(path, "rb");
-    if (!file) return NR_READ;
+    if (!file) return NR_ERR_READ;
     *text = (uint8_t *)malloc(MOST_TEXT);
-    uint32_t status = *text ? NR_OK : NR_MEMORY;
+    uint32_t status = *text ? NR_OK : NR_ERR_MEMORY;
     if (*text) *length = fread(*text, 1, MOST_TEXT, file);
     if (*text && ferror(file)) {
         free(*text);
-        status = NR_READ;
+        status = NR_ERR_READ;
     }
     fclose(file);
     return status;
@@ -92,9 +91,9 @@ uint32_t nr_golden_table_open(const char *path, void **table) {
     uint32_t status = text_of(path, &text, &length);
     if (status != NR_OK) return status;
     status = nr_table_entries(text, length, NULL, 0, &count);
-    if (status == NR_ROOM) {
+    if (status == NR_ERR_ROOM) {
         Table *it = (Table *)nr_held_new(NR_KIND_TABLE, sizeof *it + count * sizeof *it->entries);
-        status = it ? nr_table_entries(text, length, it->entries, count, &it->count) : (uint32_t)NR_MEMORY;
+        status = it ? nr_table_entries(text, length, it->entries, count, &it->count) : NR_ERR_MEMORY;
         void *handle = it;
         if (status == NR_OK) *table = it;
         else if (it) free(nr_held_taken(&handle, NR_KIND_TABLE));
@@ -120,7 +119,7 @@ uint32_t nr_golden_entries(void *table, const NrEntry **entries, size_t *count) 
 
 uint32_t nr_golden_new(void **golden) {
     void *it = nr_held_new(NR_KIND_GOLDEN, sizeof(NrStaged));
-    if (!it) return NR_MEMORY;
+    if (!it) return NR_ERR_MEMORY;
     *golden = it;
     return NR_OK;
 }
@@ -165,10 +164,12 @@ static uint32_t room_for(NrStages *made, const Given *given) {
     const NrPlan *plan = &made->plan;
     uint32_t g = given->tx->g < NR_MOST_SENT ? given->tx->g : (uint32_t)NR_MOST_SENT;
     const size_t lengths[NR_STAGES] = {0, plan->b, (size_t)plan->c * plan->kdash, (size_t)plan->c * plan->n, g, 0, g};
-    size_t all = 0;
+    size_t all = sizeof *made->places * g;
     for (int i = 0; i < NR_STAGES; i++) all += lengths[i];
-    uint8_t *at = made->memory = (uint8_t *)malloc(all);
-    if (!at) return NR_MEMORY;
+    made->places = (uint32_t *)malloc(all);
+    uint8_t *at = made->memory = (uint8_t *)made->places;
+    if (!at) return NR_ERR_MEMORY;
+    at += sizeof *made->places * g;
     for (int i = 0; i < NR_STAGES; i++) {
         made->first[i] = at;
         at += lengths[i];
@@ -216,6 +217,7 @@ static uint32_t make(NrStages *made, const Given *given) {
                          made->first[NR_STAGE_SENT], made->sent);
     if (status == NR_OK) status = nr_buffer(given->settings, a, given->tx->rv, &made->buffer);
     if (status == NR_OK) status = nr_lengths(rate, a, given->tx, made->lengths, made->plan.c);
+    if (status == NR_OK) status = nr_places(given->settings, a, given->tx, made->places, made->sent);
     for (uint32_t r = 0; status == NR_OK && r < made->plan.c; r++) {
         made->offsets[r + 1] = made->offsets[r] + made->lengths[r];
         status = make_block(made, given, r);
@@ -232,10 +234,10 @@ uint32_t nr_golden_send(void *golden, void *table, const NrSettings *settings, c
     if (status != NR_OK) return status;
     if (strlen(hex) % 2) return NR_GOLDEN_HEX;
     uint8_t *octets = (uint8_t *)malloc(given.octets_len + 1);
-    if (!octets) return NR_MEMORY;
+    if (!octets) return NR_ERR_MEMORY;
     status = octets_of(hex, given.octets_len, octets);
     given.octets = octets;
-    if (status == NR_OK) status = given.octets_len > NR_MOST_OCTETS ? (uint32_t)NR_SIZE : make(&made, &given);
+    if (status == NR_OK) status = given.octets_len > NR_MOST_OCTETS ? (uint32_t)NR_ERR_SIZE : make(&made, &given);
     if (status == NR_OK) {
         free(it->stages.memory);
         it->stages = made;

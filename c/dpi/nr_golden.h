@@ -15,7 +15,6 @@ extern "C" {
 #endif
 
 enum NrGoldenStatus {
-    NR_GOLDEN_LAYOUT = 1000,  /* an array descends, is too short, or its items are not those of C */
     NR_GOLDEN_HANDLE = 1001,  /* nothing is open by this handle */
     NR_GOLDEN_HEX = 1002,     /* the block is not whole octets of two hexadecimal digits */
     NR_GOLDEN_WIDTH = 1003,   /* a beat is not 1 to 512 bits wide */
@@ -27,7 +26,7 @@ enum NrGoldenStatus {
     NR_GOLDEN_WRITE = 1009    /* the file of answers cannot be written */
 };
 
-/* The fault's name, as "Layout"; else as nr_fault_name has it. */
+/* The fault's name, as "Width"; else as nr_fault_name has it. */
 const char *nr_golden_fault_name(uint32_t status);
 
 /* The table of a file, by a handle.
@@ -79,6 +78,10 @@ uint32_t nr_golden_send(void *golden, void *table, const NrSettings *settings, c
 /* The numbers of what was made. Faults: HANDLE; BEAT, if nothing was, or r is not below C. */
 uint32_t nr_golden_plan(void *golden, NrPlan *plan);
 uint32_t nr_golden_block(void *golden, uint32_t r, NrBuffer *buffer, uint32_t *e);
+
+/* Which bit place m of the transmission carries, from 0: bit d_n of code block r, for a DUT that recovers the rate (nr_places).
+   Faults: HANDLE; BEAT, if nothing was made, or m is not below G. */
+uint32_t nr_golden_place(void *golden, uint32_t m, uint32_t *r, uint32_t *n);
 
 /* How many bits a stage has; one of its beats. `golden` may be a receiver too, which has the stage NR_STAGE_A if its block is
    delivered. Faults: HANDLE, WIDTH, BEAT. */

@@ -30,11 +30,11 @@ static uint32_t grow(Places *places, size_t count) {
     if (count > places->room) {
         size_t room = 2 * places->room > count ? 2 * places->room : count;
         uint8_t *items = (uint8_t *)realloc(places->items, room);
-        if (!items) return NR_MEMORY;
+        if (!items) return NR_ERR_MEMORY;
         places->items = items;
         places->room = room;
     }
-    memset(places->items + places->count, NR_ERASED, count - places->count);
+    memset(places->items + places->count, NR_BIT_ERASED, count - places->count);
     places->count = count;
     return NR_OK;
 }
@@ -60,7 +60,7 @@ static uint32_t set_up(Receiver *it, const NrEntry *entries, size_t count, const
     stages->a = a;
     stages->memory = (uint8_t *)malloc(a / 8 + a);
     it->room = (uint8_t *)malloc(it->room_len);
-    if (!it->entries || !stages->memory || !it->room) return NR_MEMORY;
+    if (!it->entries || !stages->memory || !it->room) return NR_ERR_MEMORY;
     memcpy(it->entries, entries, count * sizeof *entries);
     for (uint32_t r = 0; r < stages->plan.c; r++) it->left[r] = stages->plan.kdash;
     return nr_receiver_start(entries, count, settings, a, it->room, it->room_len);
@@ -72,7 +72,7 @@ uint32_t nr_golden_receiver_new(void *table, const NrSettings *settings, uint32_
     uint32_t status = nr_golden_entries(table, &entries, &count);
     if (status != NR_OK) return status;
     void *made = nr_held_new(NR_KIND_RECEIVER, sizeof(Receiver));
-    if (!made) return NR_MEMORY;
+    if (!made) return NR_ERR_MEMORY;
     status = set_up((Receiver *)made, entries, count, settings, a);
     if (status == NR_OK) *receiver = made;
     else free_receiver((Receiver *)nr_held_taken(&made, NR_KIND_RECEIVER));
@@ -119,7 +119,7 @@ uint32_t nr_golden_receiver_take(void *receiver, const NrTx *tx, uint32_t *outco
     }
     it->next.count = 0;
     uint8_t *bits = stages->memory + stages->a / 8;
-    int delivered = *outcome == NR_DELIVERED;
+    int delivered = *outcome == NR_OUTCOME_DELIVERED;
     for (uint32_t i = 0; delivered && i < stages->a; i++) bits[i] = stages->memory[i / 8] >> (7 - i % 8) & 1;
     stages->first[NR_STAGE_A] = delivered ? bits : NULL;
     return NR_OK;

@@ -27,12 +27,13 @@ static inline uint32_t nr_lane(const NrPlace *place, uint32_t i) {
 }
 static inline uint32_t nr_bit(const uint32_t *words, uint32_t at) { return words[at / 32] >> at % 32 & 1; }
 
-/* The stages of a transport block, in one piece of memory: NULL if there is none. e and f of code block r begin at offset[r]. */
+/* The stages of a transport block, in one piece of memory: NULL if there is none. e and f of code block r begin at offset[r]. `places`
+   has what nr_places returns. */
 typedef struct NrStages {
     uint8_t *memory, *first[NR_STAGES];
     NrPlan plan;
     NrBuffer buffer;
-    uint32_t a, sent, lengths[NR_MOST_BLOCKS], offsets[NR_MOST_BLOCKS + 1];
+    uint32_t *places, a, sent, lengths[NR_MOST_BLOCKS], offsets[NR_MOST_BLOCKS + 1];
 } NrStages;
 
 /* The suite of a golden transmission (nr_suite.c). */

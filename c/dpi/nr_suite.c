@@ -44,11 +44,11 @@ uint32_t nr_golden_open(void *golden, const char *path) {
     NrStaged *it = (NrStaged *)nr_held(golden, NR_KIND_GOLDEN);
     if (!it) return NR_GOLDEN_HANDLE;
     FILE *cases = fopen(path, "rb");
-    if (!cases) return NR_READ;
+    if (!cases) return NR_ERR_READ;
     NrSuite *suite = (NrSuite *)calloc(1, sizeof *suite);
     if (!suite) {
         fclose(cases);
-        return NR_MEMORY;
+        return NR_ERR_MEMORY;
     }
     suite->cases = cases;
     nr_suite_free(it->suite);
@@ -59,7 +59,8 @@ uint32_t nr_golden_open(void *golden, const char *path) {
 /* Reads the next line that is neither blank nor a comment. */
 static uint32_t read_line(NrSuite *suite) {
     do {
-        if (!fgets(suite->line, sizeof suite->line, suite->cases)) return ferror(suite->cases) ? (uint32_t)NR_READ : (uint32_t)NR_GOLDEN_END;
+        if (!fgets(suite->line, sizeof suite->line, suite->cases))
+            return ferror(suite->cases) ? (uint32_t)NR_ERR_READ : (uint32_t)NR_GOLDEN_END;
         if (!strchr(suite->line, '\n') && !feof(suite->cases)) return NR_GOLDEN_CASE;
     } while (!suite->line[strspn(suite->line, " \t\r\n")] || suite->line[0] == '#');
     return NR_OK;
@@ -173,7 +174,7 @@ uint32_t nr_golden_expect(void *golden, const NrPlace *place) {
     if (!nr_stage_of(&it->stages, place->stage, place->r, &right) || !right) return NR_GOLDEN_BEAT;
     Given *mine = &it->suite->stages[place->stage];
     if (mine->blocks && place->r <= mine->place.r) return NR_GOLDEN_BEAT;
-    if (!has_room(mine, NR_MOST_BLOCKS)) return NR_MEMORY;
+    if (!has_room(mine, NR_MOST_BLOCKS)) return NR_ERR_MEMORY;
     uint32_t status = end(it, mine);
     for (; mine->commas < place->r; mine->commas++) mine->text[mine->count++] = ',';
     mine->from = mine->count;
@@ -193,7 +194,10 @@ static void keep_bits(NrStaged *it, Given *mine, const uint32_t *data, const uin
     for (uint32_t i = 0; i < width && mine->count - mine->from < most; i++) {
         uint32_t lane = nr_lane(&mine->place, i);
         size_t at = mine->count - mine->from;
-        if (nr_bit(keep, lane / 8)) mine->text[mine->count++] = at < right && bits[at] == NR_FILLER ? '-' : (char)('0' + nr_bit(data, lane));
+        if (nr_bit(keep, lane / 8)) {
+            char digit = (char)('0' + nr_bit(data, lane));
+            mine->text[mine->count++] = at < right && bits[at] == NR_BIT_FILLER ? '-' : digit;
+        }
     }
     size_t found = mine->count - mine->from;
     if (last && width >= 8 && found > right && found < (size_t)right + 8) mine->count = mine->from + right;
@@ -204,7 +208,7 @@ uint32_t nr_golden_take(void *golden, uint32_t stage, const uint32_t *data, cons
     if (!it) return NR_GOLDEN_HANDLE;
     if (stage >= NR_STAGES || !it->suite->stages[stage].open) return NR_GOLDEN_BEAT;
     Given *mine = &it->suite->stages[stage];
-    if (!has_room(mine, NR_WIDEST)) return NR_MEMORY;
+    if (!has_room(mine, NR_WIDEST)) return NR_ERR_MEMORY;
     uint32_t status = NR_OK;
     if (!mine->wrong) status = nr_golden_judge(golden, &mine->place, data, unknown);
     if (!mine->wrong && status == NR_OK) status = nr_golden_judge_sides(golden, &mine->place, keep, last);

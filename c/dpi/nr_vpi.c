@@ -5,79 +5,7 @@
        cc -shared -fPIC $(iverilog-vpi --cflags) nr_vpi.c nr_golden.c nr_golden_receiver.c nr_beats.c nr_packed.c nr_suite.c \
            -l:libnr.a -o nr.vpi
        iverilog -g2012 -DNR_VPI -L. -mnr nr_dpi_pkg.sv tb.sv -o tb && vvp -M. -mnr tb */
-#include "nr_packed.h"
-
-#include <vpi_user.h>
-
-#include <stdlib.h>
-#include <string.h>
-
-enum { MOST_ARGUMENTS = 9, TEXT_BITS = 8 * 192 };
-
-/* A call as it runs: the arguments, and the first fault of reading them. */
-typedef struct Call {
-    vpiHandle self, arguments[MOST_ARGUMENTS];
-    uint32_t status;
-} Call;
-
-/* The words of an argument, 0 if it has fewer. */
-static void words(Call *call, int place, uint32_t *to, int count) {
-    s_vpi_value value;
-    value.format = vpiVectorVal;
-    vpi_get_value(call->arguments[place], &value);
-    int bits = vpi_get(vpiSize, call->arguments[place]), has = (bits + 31) / 32;
-    for (int i = 0; i < count; i++) {
-        to[i] = i < has ? (uint32_t)value.value.vector[i].aval : 0;
-        if (i < has && value.value.vector[i].bval) call->status = NR_GOLDEN_UNKNOWN;
-    }
-}
-
-static uint32_t number(Call *call, int place) {
-    uint32_t found;
-    words(call, place, &found, 1);
-    return found;
-}
-
-static void *handle(Call *call, int place) {
-    uint32_t halves[2];
-    words(call, place, halves, 2);
-    return (void *)(uintptr_t)((uint64_t)halves[1] << 32 | halves[0]);
-}
-
-/* A text, to be freed: the simulator keeps its own only until it is asked for the next one. */
-static char *text(Call *call, int place) {
-    s_vpi_value value;
-    value.format = vpiStringVal;
-    vpi_get_value(call->arguments[place], &value);
-    char *copy = value.value.str ? strdup(value.value.str) : NULL;
-    if (!copy && call->status == NR_OK) call->status = NR_MEMORY;
-    return copy;
-}
-
-/* Writes words to a variable, or to the call itself; 0 if it has more. */
-static void put(vpiHandle variable, const uint32_t *from, int count) {
-    s_vpi_value value;
-    int has = (vpi_get(vpiSize, variable) + 31) / 32;
-    value.format = vpiVectorVal;
-    value.value.vector = (p_vpi_vecval)calloc((size_t)has + 1, sizeof *value.value.vector);
-    for (int i = 0; value.value.vector && i < count && i < has; i++) value.value.vector[i].aval = (PLI_INT32)from[i];
-    if (value.value.vector) vpi_put_value(variable, &value, NULL, vpiNoDelay);
-    free(value.value.vector);
-}
-
-static void put_handle(Call *call, int place, void *it) {
-    uint64_t address = (uint64_t)(uintptr_t)it;
-    const uint32_t halves[2] = {(uint32_t)address, (uint32_t)(address >> 32)};
-    put(call->arguments[place], halves, 2);
-}
-
-/* The place of a beat that these arguments name. */
-static NrPlace place_from(Call *call, int stage, int beat) {
-    NrPlace place = {NR_STAGE_SENT, 0, number(call, beat), number(call, beat + 1), number(call, beat + 2)};
-    if (stage) place.stage = number(call, stage);
-    if (stage) place.r = number(call, stage + 1);
-    return place;
-}
+#include "nr_vpi_call.h"
 
 static uint32_t table_open(Call *call) {
     void *table = NULL;
@@ -139,6 +67,16 @@ static uint32_t golden_block(Call *call) {
     put(call->arguments[2], &buffer.ncb, 1);
     put(call->arguments[3], &buffer.k0, 1);
     put(call->arguments[4], &e, 1);
+    return NR_OK;
+}
+
+static uint32_t golden_place(Call *call) {
+    void *golden = handle(call, 0);
+    uint32_t r = 0, n = 0, m = number(call, 1), status = call->status;
+    if (status == NR_OK) status = nr_golden_place(golden, m, &r, &n);
+    if (status != NR_OK) return status;
+    put(call->arguments[2], &r, 1);
+    put(call->arguments[3], &n, 1);
     return NR_OK;
 }
 
@@ -269,6 +207,7 @@ static const Entry CALLS[] = {
     {"$nr_golden_send", 6, golden_send},
     {"$nr_golden_plan", 2, golden_plan},
     {"$nr_golden_block", 5, golden_block},
+    {"$nr_golden_place", 4, golden_place},
     {"$nr_golden_count", 4, golden_count},
     {"$nr_golden_beat", 7, golden_beat},
     {"$nr_golden_judge", 8, golden_judge},
