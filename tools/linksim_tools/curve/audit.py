@@ -9,6 +9,7 @@ import random
 import typing
 
 from linksim_tools.common.program import Failed
+from linksim_tools.curve import head
 from linksim_tools.curve.draws import threshold_of
 from linksim_tools.curve.results import comments_of, line_from, lines_from, results_file, rewrite, say, two_sources
 from linksim_tools.curve.source import DIGITS
@@ -38,13 +39,13 @@ def missing(setting: Setting, lines: list[Line], points: typing.Sequence[float],
     return found
 
 
-def judge_source(call: Call, lines: list[Line], maker_too: bool) -> None:
+def judge_source(call: Call, lines: list[Line], files: list[pathlib.Path], maker_too: bool) -> None:
     """Fails if lines come from another table or setting than those of now, or if `maker_too` from another program."""
     if not lines or not lines[0].source:
-        raise Failed("there is no line with a source in these files")
+        raise Failed(f"{', '.join(map(str, files))}: there is no line with a source")
     there, now = lines[0].source, call.source.text()
     if there[0 if maker_too else DIGITS :] != now[0 if maker_too else DIGITS :]:
-        raise Failed(two_sources({now: f"{call.setting.path} now", there: "the file of results"}))
+        raise Failed(two_sources({now: f"{call.setting.path} now", there: files[0]}))
 
 
 def audit(call: Call, engine: Engine, lines: list[Line], share: float, seed: int) -> int:
@@ -53,7 +54,7 @@ def audit(call: Call, engine: Engine, lines: list[Line], share: float, seed: int
     count = max(1, round(share * len(lines)))
     drawn = {line.key(): line for line in random.Random(seed).sample(lines, count)}
     say(f"{count} of {len(lines)} chunks are made anew, drawn by --seed {seed}")
-    shares = batches([(line.p, line.chunk) for line in drawn.values()], Costs(), engine.least, engine.most())
+    shares = batches([(line.p, line.chunk) for line in drawn.values()], Costs(), engine.longest, engine.slots(), engine.most())
     differ = 0
     with contextlib.closing(engine):
         for text in itertools.chain(engine.recovered(call), engine.lines(call, shares)):
@@ -75,7 +76,8 @@ def restamp(call: Call, paths: typing.Sequence[pathlib.Path], share: float, seed
             if not lines or lines[0].source == new:
                 say(f"{path} has this source already")
                 continue
-            old = f"# {len(lines)} chunks had the source {lines[0].source}"
-            said = f"{old}; with --share {share:g} --seed {seed} those drawn were made anew by {new}, the same"
-            rewrite(path, [*comments_of(path), said], [dataclasses.replace(line, source=new) for line in lines])
+            old = f"## {len(lines)} chunks had the source {lines[0].source}"
+            said = f"{old}; with --share {share:g} --seed {seed} those drawn were made again by {new}, with the same result"
+            comments = [*head.of(call.setting, call.program), *head.without(comments_of(path)), said]
+            rewrite(path, comments, [dataclasses.replace(line, source=new) for line in lines])
             say(f"{path} has the source {new} now, and before had {lines[0].source}")

@@ -130,8 +130,8 @@ def lines_of(
 def read(
     lines: typing.Iterable[bytes], sendings: typing.Sequence[Sending]
 ) -> tuple[list[int], list[tuple[str, bytes]]]:
-    """What each code block lacks after each transmission of a schedule, in turn. Of each round its outcome, and the last word of its
-    line, which is the block if one is delivered."""
+    """What each code block lacks after each transmission of a schedule, in turn. Of each round its outcome, and the last word of
+    its line, which is the block if one is delivered."""
     lacking: list[int] = []
     ends: list[tuple[str, bytes]] = []
     for line in lines:

@@ -4,6 +4,7 @@ array."""
 from __future__ import annotations
 
 import argparse
+import datetime
 import pathlib
 import random
 import sys
@@ -25,9 +26,19 @@ def do_run(given: argparse.Namespace, setting: settings.Setting, program: pathli
     from linksim_tools.curve import run as running
 
     out = given.out or setting.path.with_suffix(".csv")
-    packages.look_for("numpy")
     engine = engines.engine_named(given.engine, given.jobs, given.batch, given.latency_wait, out)
-    running.run(setting, program, out, engine, given.estimate)
+    if given.detach:
+        engines.detach(engine, out)
+        return
+    running.run(setting, program, out, engine, given.estimate, given.silence)
+
+
+def do_status(given: argparse.Namespace) -> None:
+    """How far a run is."""
+    from linksim_tools.curve import status
+
+    for line in status.lines(given.file, datetime.datetime.now(datetime.timezone.utc)):
+        print(line)
 
 
 def do_missing(given: argparse.Namespace) -> int:
@@ -36,7 +47,7 @@ def do_missing(given: argparse.Namespace) -> int:
 
     setting, lines = settings.read_setting(given.missing), results.merged(given.files)
     if lines:
-        results.judge(setting, lines)
+        results.judge(setting, lines, given.files)
     found = audit.missing(setting, lines, given.points or [], given.chunks)
     for p, chunk in found:
         print(f"{p!r},{chunk}")
@@ -50,7 +61,9 @@ def do_merge(given: argparse.Namespace) -> int | None:
     lines = results.merged(given.files)
     shown = results.totals(lines) if given.total else lines
     if not lines:
-        raise Failed(f"there is no line in {', '.join(map(str, given.files))}")
+        raise Failed(f"{', '.join(map(str, given.files))}: there is no line of results")
+    for comment in results.comments_of_all(given.files):
+        print(comment)
     print(results.header(len(lines[0].failed), "chunks" if given.total else "chunk", bool(lines[0].source)))
     for line in shown:
         print(line.text())
@@ -61,11 +74,10 @@ def do_audit(given: argparse.Namespace, setting: settings.Setting, program: path
     """A drawn share of the chunks, made anew; status 1 if one differs."""
     from linksim_tools.curve import audit, engines
 
-    packages.look_for("numpy")
     files = [pathlib.Path(file) for file in given.files] or [setting.path.with_suffix(".csv")]
     lines = results.merged(files)
     call = engines.Call(setting, program, source.source_of(setting, program))
-    audit.judge_source(call, lines, not given.restamp)
+    audit.judge_source(call, lines, files, not given.restamp)
     engine = engines.engine_named(given.engine, given.jobs, None, given.latency_wait, setting.path)
     seed = random.SystemRandom().randrange(2**32) if given.seed is None else given.seed
     if audit.audit(call, engine, lines, given.share, seed):
@@ -80,7 +92,7 @@ def do_pool(given: argparse.Namespace, setting: settings.Setting, program: pathl
     from linksim_tools.curve import making, pool, traced
 
     numpy, curve = packages.numpy_for("pool"), traced.curve_of(setting, program, given.files)
-    taken = pool.Pool(setting, making.shape_of(setting, program), curve.lines, numpy)
+    taken = pool.Pool(setting, making.shape_of(setting), curve.lines, numpy)
     print("p,transmissions,estimate,low,high,low_if,high_if,events,rounds,reached")
     for p in given.at or [line.p for line in taken.points]:
         for after in range(1, len(setting.rvs) + 1):
@@ -102,7 +114,7 @@ def do_limits(given: argparse.Namespace, setting: settings.Setting, program: pat
     """What theory says, for each number of transmissions."""
     from linksim_tools.curve import theory
 
-    code = theory.code_of(setting, program)
+    code = theory.code_of(setting)
     print("transmissions,erasure_limit,density_evolution")
     for after in range(1, len(setting.rvs) + 1):
         limit = theory.erasure_limit(setting, after)
@@ -146,7 +158,7 @@ def do_sets(given: argparse.Namespace, setting: settings.Setting, program: pathl
     from linksim_tools.curve import sets, theory
 
     after = transmissions_of(given, setting)
-    code = theory.code_of(setting, program)
+    code = theory.code_of(setting)
     found: list[typing.Any] = []
     for chunk in given.chunk:
         print(f"{name_of('curve')}: audit of chunk {chunk}", file=sys.stderr)

@@ -2,6 +2,7 @@
 
 from __future__ import annotations
 
+import functools
 import math
 
 # The quantile of the normal distribution for intervals of 95 percent.
@@ -72,6 +73,7 @@ def gamma_quantile(shape: float, share: float) -> float:
     return high
 
 
+@functools.lru_cache(maxsize=64)
 def normal_quantile(share: float) -> float:
     """The normal distribution's quantile, by bisection."""
     low, high = -40.0, 40.0

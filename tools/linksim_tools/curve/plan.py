@@ -8,23 +8,24 @@ import typing
 
 from linksim_tools.curve.draws import threshold_of
 from linksim_tools.curve.grid import halvings, middle
+from linksim_tools.curve.failures import binomial
 from linksim_tools.curve.intervals import QUANTILE, near_quantile
 from linksim_tools.curve.making import first_hope
-from linksim_tools.curve.pool import Pool, binomial
+from linksim_tools.curve.pool import Pool
 
 if typing.TYPE_CHECKING:
     from linksim_tools.curve.making import Shape, Task
-    from linksim_tools.curve.pool import Estimate, Failures
+    from linksim_tools.curve.failures import Failures
+    from linksim_tools.curve.pool import Estimate
     from linksim_tools.curve.results import Line
     from linksim_tools.curve.setting import Setting
 
 # Failures are put together by so many numbers of erased places to foresee an interval.
 BINS = 100
 
-# A plan aims a little further than what is wanted: what it finds is not quite what it foresees. If it is less than a part of a
-# wave, it aims further still, step by step.
+# A plan aims a little further than what is wanted, because what it finds is not quite what it foresees. If that is less than a
+# wave, it aims further still, step by step: a wave that is not full leaves machines idle, and further waves may follow.
 AIMS = (0.96, 0.9, 0.8, 0.7, 0.6, 0.5)
-PART = 4
 
 # What a run takes in all is foreseen by this aim: the cheapest plan for the few failures that were seen is too cheap.
 FORESEEN = 0.7
@@ -91,7 +92,7 @@ class Outlook:
             ks, seen = self.binned(some)
             chances = numpy.array([chances_of(some.places, threshold_of(p) / 2**32, ks, numpy) for p in points])
             chances = chances.reshape(len(points), len(ks))
-            rounds = numpy.array([made for _, made in some.made], dtype=float)
+            rounds = numpy.array(some.made, dtype=float)
             expected = rounds @ chances
             self.chances.append(chances)
             self.failures.append(count**2 * seen / numpy.maximum(expected, 1e-300))
@@ -224,16 +225,20 @@ def missing_grid(setting: Setting, lines: list[Line]) -> list[Task]:
 def wave(
     setting: Setting, shape: Shape, lines: list[Line], numpy: typing.Any
 ) -> tuple[list[Task], list[Task] | None]:
-    """The wave that follows on these lines, and all that will probably be made from now on; nothing if that cannot be said. First
-    comes the grid. If the curve falls between points, the wave has those between, and those beside them that are wanted if it
-    falls there too. Then come chunks that narrow the intervals: as many as a wave has, or a multiple of that that is no more
-    than there are."""
+    """The wave that follows on these lines, and all chunks that will probably be made from now on; None if that cannot be said.
+    The grid comes first. If the curve falls between points, the next wave has those between, and those beside them that are
+    wanted if it falls there too. The rest of it, and later waves, are chunks that narrow the intervals: as many as a wave has, or
+    a multiple of that, but no more than have been made."""
     first = missing_grid(setting, lines)
     if first:
         return first, None
     plan, size = Plan(setting, shape, lines, numpy), setting.wave
     tasks = plan.added()
     if tasks:
-        return tasks + halvings(setting, lines, tasks, size - len(tasks)), None
-    rest, foreseen = (numbered(lines, counts) for counts in plan.counts(max(1, size // PART)))
+        tasks += halvings(setting, lines, tasks, size - len(tasks))
+        if len(tasks) >= size:
+            return tasks, None
+    rest, foreseen = (numbered(lines, counts) for counts in plan.counts(size))
+    if tasks:
+        return tasks + rest[: size - len(tasks)], None
     return rest[: size * max(1, min(len(lines), len(rest)) // size)], foreseen

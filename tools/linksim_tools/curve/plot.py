@@ -84,7 +84,8 @@ def draw_pooled(
     marked = [one for one in solid if one.p in known and one.estimate >= LOWEST]
     axis.plot([one.p for one in marked], [one.estimate for one in marked], color=colour, marker=mark, markersize=3.5,
               linewidth=0)
-    axis.plot([one.p for one in guess], [one.estimate for one in guess], color=colour, linewidth=1.4)
+    estimates = [one.estimate if one.is_known(one.estimate) else math.nan for one in guess]
+    axis.plot([one.p for one in guess], estimates, color=colour, linewidth=1.4)
 
 
 def draw_theory(

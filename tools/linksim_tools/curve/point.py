@@ -9,9 +9,6 @@ import sys
 import typing
 
 from linksim_tools.curve.making import Maker
-from linksim_tools.curve.packages import look_for
-from linksim_tools.curve.results import note
-from linksim_tools.curve.simulating import simulator_of
 from linksim_tools.curve.source import Watch, judge_told, source_of
 from linksim_tools.curve.tasks import tasks_from
 
@@ -40,22 +37,18 @@ def point(setting: Setting, program: pathlib.Path, words: typing.Sequence[str], 
     it was made, and how many seconds of a processor it took."""
     if list(words) != ["-"]:
         tasks_from(words)
-    if setting.link == "erase" and not simulator_of(setting, program) and not look_for("numpy"):
-        note("numpy is not there: to count erased places takes many times as long")
     watch = Watch(setting, program)
     source = source_of(setting, program)
     if told is not None:
         judge_told(told, source)
     maker = Maker(setting, program, source, watch)
     for tasks in words_given(words):
-        size = maker.at_a_time()
-        for start in range(0, len(tasks), size):
-            some, before = tasks[start : start + size], processor_seconds()
-            made = list(maker.lines(some))
-            each = (processor_seconds() - before) / len(made)
-            for line in made:
-                if cost:
-                    now = datetime.datetime.now(datetime.timezone.utc).isoformat(timespec="seconds")
-                    maker_name = "library" if maker.simulator else "program"
-                    print(f"# {now},{os.uname().nodename},{line.p!r},{line.chunk},{each:.4f},{maker_name}")
-                print(line.text(), flush=True)
+        for task in tasks:
+            before = processor_seconds()
+            line = maker.line(task)
+            if cost:
+                now = datetime.datetime.now(datetime.timezone.utc).isoformat(timespec="seconds")
+                spent = processor_seconds() - before
+                maker_name = "library" if maker.simulator else "program"
+                print(f"# {now},{os.uname().nodename},{line.p!r},{line.chunk},{spent:.4f},{maker_name}")
+            print(line.text(), flush=True)

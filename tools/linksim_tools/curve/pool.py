@@ -1,12 +1,13 @@
-"""One simulation for the whole curve: the chunks of all points speak of the rate at any erasure probability.
+"""One simulation for the whole curve: the chunks of all points say something about the rate at any erasure probability.
 
-Suppose that K of the N places of a code block's first m transmissions are erased. Then every set of K places is equally
-likely, at whatever probability p they were drawn. Let F(K) be the share of these sets after which the code block is
-open. Its error rate is then the sum over K of Binomial(N, K, p) F(K). Each failure that was seen, at whatever point,
-has a weight. It is Binomial(N, K, p) / (how often the rounds of all points are expected to have that K). So no sum is
-biased, and nobody has to count the erased places of rounds that are delivered. With more than N - K' places erased
-every code block is open, and nothing needs to be seen. Code blocks are independent, so that a transport block of C code
-blocks is delivered with the product of their chances."""
+Suppose that K of the N bits of a code block's first m transmissions are erased. Then every set of K bits is equally likely,
+whatever the probability p with which they were erased. Let F(K) be the fraction of these sets that leave the code block undecided.
+Its error rate is then the sum over K of Binomial(N, K, p) F(K). F does not depend on p, so all points measure the same F. How the K
+erased bits are shared out over the m transmissions does not depend on p either, so K alone is enough. With more than N - K' bits
+erased every code block is undecided, and nothing needs to be seen. Code blocks are independent, so a transport block of C code
+blocks is delivered with the product of their probabilities.
+
+F(K) never falls as K grows (isotonic.py), and so the rate never falls as p grows."""
 
 from __future__ import annotations
 
@@ -16,8 +17,11 @@ import math
 import typing
 
 from linksim_tools.common.program import Failed
+from linksim_tools.curve.bounds import GROWTH, NOTHING_SEEN
 from linksim_tools.curve.draws import threshold_of
-from linksim_tools.curve.intervals import TAIL, fay_feuer, gamma_quantile, normal_quantile, wilson
+from linksim_tools.curve.failures import Failures, Part
+from linksim_tools.curve.intervals import TAIL, normal_quantile, wilson
+from linksim_tools.curve.isotonic import Seen, isotonic
 from linksim_tools.curve.making import first_hope
 from linksim_tools.curve.results import summed, totals
 
@@ -26,30 +30,21 @@ if typing.TYPE_CHECKING:
     from linksim_tools.curve.results import Line
     from linksim_tools.curve.setting import Setting
 
-# Numbers of erased places that are so many deviations from the mean are left out of account.
-DEVIATIONS = 12
+# An estimate is drawn as a line if this fraction of the rounds was reached, or if its interval is this narrow.
+REACHED = 0.5
+NARROW = 0.1
 
-# The upper end of the interval if nothing failed, in greatest weights.
-NOTHING_SEEN = gamma_quantile(1.0, 1 - TAIL)
-
-
-# The second interval gives what was not seen so many times the greatest weight of what was. The failure with the fewest
-# erasures that was seen is seldom the least one. With one time it covers less than 95 percent if few failures were
-# seen.
-UNSEEN = 2.0
-
-
-# Beyond this rate a point's own share is looked at too.
-MOSTLY = 0.5
+# The rates at which the share of a point's own rounds is compared with the pooled rate.
+RATES_NEAR_1 = (*(0.5 + 0.02 * step for step in range(25)), 0.99, 0.995, 0.998, 0.999)
 
 
 @dataclasses.dataclass(frozen=True)
 class Estimate:
-    """What is known of a rate: the estimate, and the interval that holds whatever fails. Then the one that holds if nothing
-    fails at fewer erasures than were seen to fail, which is nothing if no failure was seen. `events` is how many equally
-    weighted failures are worth as much as those that were seen. `rounds` is how many rounds at this very point would tell
-    as much of a failure that was not seen. `reached` is which share of all rounds has a number of erased places that was
-    reached so well."""
+    """What is known of a rate: the estimate, the interval that holds without assumptions, and the one that holds if nothing fails
+    with fewer erasures than were seen to fail (None if no failure was seen). `events` is how many failures of equal weight those
+    that were seen are worth. `rounds` is how many rounds at this p would say as much of a failure that was not seen. `reached` is
+    the fraction of rounds at this p whose number of erased bits occurred often enough at some point. Below `certain` the rate
+    cannot be."""
 
     p: float
     after: int
@@ -61,131 +56,21 @@ class Estimate:
     events: float
     rounds: float
     reached: float
+    certain: float = 0.0
 
-    def ends(self) -> tuple[float, float, float]:
-        """The interval's low end, the estimate, and the high end."""
-        return self.low, self.estimate, self.high
-
-    def between(self, below: typing.Optional[Estimate], above: typing.Optional[Estimate]) -> Estimate:
-        """The same, with no part of it below a rate that is no greater, or above one that is no less."""
-        floors, tops = below.ends() if below else (0.0,) * 3, above.ends() if above else (1.0,) * 3
-        low, estimate, high = (min(max(one, floor), top) for one, floor, top in zip(self.ends(), floors, tops))
+    def within(self, low: float, high: float) -> Estimate:
+        """The same with these ends, widened to hold the estimate; the second interval is kept inside the first."""
+        low, high = min(low, self.estimate), max(high, self.estimate)
         inner = [None if end is None else min(max(end, low), high) for end in (self.low_if, self.high_if)]
-        return dataclasses.replace(self, estimate=estimate, low=low, high=high, low_if=inner[0], high_if=inner[1])
+        return dataclasses.replace(self, low=low, high=high, low_if=inner[0], high_if=inner[1])
+
+    def is_known(self, scale: float) -> bool:
+        """Whether it may be drawn as a line: at least half of the rounds were reached, or the interval is narrow on this scale."""
+        return self.reached >= REACHED or self.high - self.low <= NARROW * scale
 
     def half_width(self) -> float:
-        """Half of the first interval, against the estimate."""
+        """Half of the first interval, relative to the estimate."""
         return (self.high - self.low) / 2 / self.estimate if self.estimate else math.inf
-
-
-def binomial(count: int, p: float, first: int, last: int, numpy: typing.Any) -> typing.Any:
-    """The logarithms of a binomial distribution's probabilities from `first` to `last`."""
-    if not 0 < p < 1:
-        logs = numpy.full(last - first + 1, -math.inf)
-        only = int(count * p)
-        if first <= only <= last:
-            logs[only - first] = 0.0
-        return logs
-    start = min(max(int(count * p), first), last)
-    odds = math.log(p) - math.log1p(-p)
-    head = math.lgamma(count + 1) - math.lgamma(start + 1) - math.lgamma(count - start + 1)
-    head += start * math.log(p) + (count - start) * math.log1p(-p)
-    up = numpy.arange(start, last)
-    down = numpy.arange(start, first, -1)
-    above = numpy.cumsum(numpy.log((count - up) / (up + 1)) + odds)
-    below = numpy.cumsum(numpy.log(down / (count - down + 1)) - odds)
-    return head + numpy.concatenate((below[::-1], [0.0], above))
-
-
-def window(count: int, p: float) -> tuple[int, int]:
-    """The numbers of erased places, of `count`, that occur."""
-    reach = DEVIATIONS * math.sqrt(count * p * (1 - p)) + DEVIATIONS**2 / 3
-    return max(0, int(count * p - reach)), min(count, int(count * p + reach) + 1)
-
-
-@dataclasses.dataclass(frozen=True)
-class Part:
-    """The estimate of one length of code blocks, as Estimate has it for whole blocks."""
-
-    estimate: float
-    first: tuple[float, float]
-    second: typing.Optional[tuple[float, float]]
-    events: float
-    weight: float
-    reached: float
-
-
-class Failures:
-    """What was seen of code blocks of one length after so many transmissions. They have `places` places and K' bits. By
-    point it says how many were made, and by K how many failed."""
-
-    def __init__(
-        self, places: int, kdash: int, made: list[tuple[float, int]], failed: typing.Mapping[int, int], numpy: typing.Any
-    ) -> None:
-        self.places, self.certain, self.made, self.numpy = places, places - kdash, made, numpy
-        seen = sorted((k, count) for k, count in failed.items() if count and k <= self.certain)
-        self.k = numpy.array([k for k, _ in seen], dtype=numpy.int64)
-        self.counts = numpy.array([count for _, count in seen], dtype=float)
-
-    def expected(self, first: int, last: int) -> typing.Any:
-        """How many code blocks of all points are expected to have each number of erased places."""
-        expected = self.numpy.zeros(last - first + 1)
-        for p, made in self.made:
-            low, high = window(self.places, p)
-            low, high = max(low, first), min(high, last)
-            if low <= high:
-                part = self.numpy.exp(binomial(self.places, p, low, high, self.numpy))
-                expected[low - first : high - first + 1] += made * part
-        return expected
-
-    def at(self, p: float, tail: float = TAIL) -> Part:
-        """The rate at an erasure probability."""
-        numpy = self.numpy
-        first, last = window(self.places, p)
-        share = numpy.exp(binomial(self.places, p, first, last, numpy))
-        open_for_certain = float(share[max(0, self.certain + 1 - first) :].sum())
-        count = max(0, min(last, self.certain) - first + 1)
-        share, expected = share[:count], self.expected(first, last)[:count]
-        weights = numpy.divide(share, expected, out=numpy.full(count, math.inf), where=expected > 0)
-        weight, missed = self.greatest_weight(share, weights)
-        kept = weights <= weight
-        inside = (self.k >= first) & (self.k < first + count)
-        inside[inside] = kept[self.k[inside] - first]
-        seen, counts = weights[self.k[inside] - first], self.counts[inside]
-        estimate, variance = float((seen * counts).sum()), float((seen**2 * counts).sum())
-        ends = self.ends(estimate, variance, weight, missed, open_for_certain, tail)
-        second = None
-        if len(seen):
-            least = int(self.k[inside].min()) - first
-            known, shares = weights[least:], share[least:]
-            reached = known <= weight
-            rest = float(shares[~reached].sum())
-            likely = min(weight, UNSEEN * float(known[reached].max()))
-            second = self.ends(estimate, variance, likely, rest, open_for_certain, tail)
-        events = estimate**2 / variance if variance else 0.0
-        return Part(open_for_certain + estimate, ends, second, events, weight, max(0.0, 1 - missed))
-
-    def greatest_weight(self, share: typing.Any, weights: typing.Any) -> tuple[float, float]:
-        """The weight up to which numbers of erased places count as reached, and the share of all rounds beyond. It makes
-        the upper end least if nothing fails, and depends on what was made alone, never on what failed."""
-        numpy = self.numpy
-        if not len(share):
-            return 0.0, 0.0
-        order = numpy.argsort(weights)
-        beyond = numpy.concatenate((numpy.cumsum(share[order][::-1])[::-1][1:], [0.0]))
-        tops = NOTHING_SEEN * weights[order] + beyond
-        best = int(numpy.argmin(tops))
-        if not math.isfinite(float(tops[best])):
-            return 0.0, float(share.sum())
-        return float(weights[order][best]), float(beyond[best])
-
-    @staticmethod
-    def ends(
-        estimate: float, variance: float, weight: float, missed: float, certain: float, tail: float
-    ) -> tuple[float, float]:
-        """An interval, with what fails for certain and with what was not reached."""
-        low, high = fay_feuer(estimate, variance, weight, tail)
-        return min(1.0, certain + low), min(1.0, certain + high + missed)
 
 
 class Pool:
@@ -194,63 +79,91 @@ class Pool:
     def __init__(self, setting: Setting, shape: Shape, lines: list[Line], numpy: typing.Any) -> None:
         if not setting.is_pooled:
             what = "flips bits" if setting.link == "flip" else "erases units or bursts"
-            raise Failed(f"{setting.path} {what}: only where single bits are erased do all points speak of each other")
+            raise Failed(f"{setting.path} {what}: chunks of all points are only pooled where single bits are erased")
         if any(not line.source for line in lines):
-            raise Failed("lines of an earlier version have no counts by erased places: make them anew")
+            raise Failed("lines of an earlier version have no counts by erased bits: make them again")
         self.points = totals(lines)
         self.sizes = [(length, shape.lengths.count(length)) for length in shape.sizes()]
-        hopes = [first_hope(setting, shape, line.p) for line in self.points]
-        self.parts: list[list[Failures]] = []
-        # The points after each number of transmissions, and those where nobody looked at erased places, since nearly all failed.
-        self.shares = [{line.p: line for line in self.points} for _ in setting.rvs]
-        self.hopeless: list[set[float]] = []
+        self.hopes = {line.p: first_hope(setting, shape, line.p) for line in self.points}
         self.known: dict[tuple[float, int, float, bool], Estimate] = {}
+        self.looked: dict[tuple[float, int, float], list[Part]] = {}
+        self.parts: list[list[Failures]] = []
         for after in range(1, len(setting.rvs) + 1):
-            counted = [line for line, hope in zip(self.points, hopes) if hope <= after]
-            made = [(threshold_of(line.p) / 2**32, line.rounds) for line in self.points]
-            rounds = [(p, count * (hope <= after)) for (p, count), hope in zip(made, hopes)]
-            failed = summed(line.erased[after - 1] for line in counted)
-            self.hopeless.append({line.p for line, hope in zip(self.points, hopes) if hope > after})
+            failed = summed(line.erased[after - 1] for line in self.points if self.is_counted(line.p, after))
+            failed += [collections.Counter()] * (len(self.sizes) - len(failed))
+            seen = zip(*(self.seen(line, after) for line in self.points))
             self.parts.append([
-                Failures(
-                    after * length, shape.kdash, [(p, some * count) for p, some in rounds],
-                    failed[index] if index < len(failed) else collections.Counter(), numpy,
-                )
-                for index, (length, count) in enumerate(self.sizes)
+                Failures(after * length, shape.kdash, list(points), some, numpy)
+                for (length, _), points, some in zip(self.sizes, seen, failed)
             ])
 
+    def is_counted(self, p: float, after: int) -> bool:
+        """Whether failures at a point were counted by erased bits. Where nearly all fail they were not."""
+        return self.hopes[p] <= after
+
+    def seen(self, line: Line, after: int) -> list[Seen]:
+        """What was seen at a point of code blocks of each length."""
+        p, made = threshold_of(line.p) / 2**32, [line.rounds * count for _, count in self.sizes]
+        if not self.is_counted(line.p, after):
+            share = line.failed_codeblocks[after - 1] / (line.rounds * line.c)
+            return [Seen(p, count, share * count, False) for count in made]
+        failed = [float(sum(counts.values())) for counts in summed([line.erased[after - 1]])]
+        return [Seen(p, count, number) for count, number in zip(made, failed + [0.0] * len(made))]
+
     def at(self, p: float, after: int, tail: float = TAIL, of_blocks: bool = False) -> Estimate:
-        """The block error rate, or that of code blocks, at an erasure probability after so many transmissions, with so much left
-        out at each end. It never falls as p grows: beside points at which most rounds fail it is kept between theirs."""
+        """The block error rate, or the code block error rate, at an erasure probability after this many transmissions, with
+        `tail` left out at each end. The estimate never falls as p grows. Rates near 1 are judged by the share of failed rounds,
+        at p itself or at the next point below."""
         key = p, after, tail, of_blocks
         if key not in self.known:
-            points = self.shares[after - 1]
-            if p in points:
-                self.known[key] = self.at_point(p, after, tail, of_blocks)
-            else:
-                ends = max((q for q in points if q < p), default=None), min((q for q in points if q > p), default=None)
-                beside = [None if q is None else self.at(q, after, tail, of_blocks) for q in ends]
-                below, above = (one if one and one.estimate > MOSTLY else None for one in beside)
-                self.known[key] = self.pooled(p, after, tail, of_blocks).between(below, above)
+            found = self.pooled(p, after, tail, of_blocks)
+            low, high = found.low, found.high
+            below = max((line for line in self.points if line.p <= p), key=lambda line: line.p, default=None)
+            if below is not None:
+                own = plain_estimate(below, after, tail, of_blocks)
+                beyond = self.beyond(below, p, after, tail, 0, of_blocks)
+                if low >= beyond:
+                    low = max(beyond, own.low, found.certain)
+                if below.p == p:
+                    beyond = self.beyond(below, p, after, tail, 1, of_blocks)
+                    high = own.high if own.high >= beyond else min(high, beyond)
+            self.known[key] = found.within(low, high)
         return self.known[key]
 
-    def at_point(self, p: float, after: int, tail: float, of_blocks: bool) -> Estimate:
-        """The rate at a point of the curve. If most rounds fail, the narrower interval counts of the pooled rate and of the share
-        of the point's own rounds. In the former the drawn numbers of erased places weigh, and not in the latter."""
-        own = plain_estimate(self.shares[after - 1][p], after, tail, of_blocks)
-        if p in self.hopeless[after - 1]:
-            return own
-        pooled = self.pooled(p, after, tail, of_blocks)
-        return own if pooled.estimate > MOSTLY and own.high - own.low < pooled.high - pooled.low else pooled
+    def beyond(self, point: Line, p: float, after: int, tail: float, end: int, of_blocks: bool) -> float:
+        """The rate above which the share of a point's own rounds is expected to say more than the pooled rate, whatever was
+        seen."""
+        if not self.is_counted(point.p, after):
+            return 0.0
+        shifted = [part.shifted[end] for part in self.parts_at(p, after, tail) if part.shifted]
+        places = after * max(size for size, _ in self.sizes)
+        away = GROWTH * (p - point.p) * places / math.sqrt(max(1.0, places * p * (1 - p)))
+        count = 1 if of_blocks else sum(count for _, count in self.sizes)
+        for rate in RATES_NEAR_1:
+            of_one = -math.expm1(math.log1p(-rate) / count)
+            slope = count * (1 - of_one) ** (count - 1)
+            found = [one.foreseen(of_one) for one in shifted] or [(0.0, 0.0)]
+            whole, chance = (slope * max(one[seat] for one in found) for seat in range(2))
+            of_own = 2 * math.sqrt(rate * (1 - rate) / point.rounds) + NOTHING_SEEN / point.rounds
+            if 1 - rate < 2 * chance or (1 - rate) * rate * away + of_own < whole:
+                return rate
+        return 1.0
 
     def code_blocks_at(self, p: float, after: int, tail: float = TAIL) -> Estimate:
-        """The code block error rate, over the lengths of code blocks."""
+        """The code block error rate, over all lengths of code blocks."""
         return self.at(p, after, tail, of_blocks=True)
 
+    def parts_at(self, p: float, after: int, tail: float) -> list[Part]:
+        """The rates of code blocks of each length."""
+        key = p, after, tail
+        if key not in self.looked:
+            self.looked[key] = [failures.at(p, tail / len(self.sizes)) for failures in self.parts[after - 1]]
+        return self.looked[key]
+
     def pooled(self, p: float, after: int, tail: float, of_blocks: bool) -> Estimate:
-        """A rate by the chunks of all points. It is made of the rates of code blocks of each length."""
+        """A rate by the chunks of all points, made of the rates of code blocks of each length."""
         rate = self.mean_rate if of_blocks else self.block_rate
-        parts = [failures.at(p, tail / len(self.sizes)) for failures in self.parts[after - 1]]
+        parts = self.parts_at(p, after, tail)
         second = [part.second for part in parts if part.second]
         has_second = len(second) == len(parts)
         return Estimate(
@@ -259,6 +172,7 @@ class Pool:
             rate([low for low, _ in second]) if has_second else None,
             rate([high for _, high in second]) if has_second else None,
             sum(part.events for part in parts), self.rounds_of(parts), min(part.reached for part in parts),
+            rate([part.certain for part in parts]),
         )
 
     def mean_rate(self, rates: list[float]) -> float:
@@ -275,39 +189,51 @@ class Pool:
         return -math.expm1(logs) or 0.0
 
     def rounds_of(self, parts: list[Part]) -> float:
-        """How many rounds at a point would tell as much of a failure that was not seen."""
+        """How many rounds at a point would say as much of a failure that was not seen."""
         rate = 1 - (1 - max(part.weight for part in parts)) ** sum(count for _, count in self.sizes)
         return 1 / rate if rate > 0 else 0.0
 
 
 def plain_estimate(line: Line, after: int, tail: float = TAIL, of_blocks: bool = False, apart: bool = True) -> Estimate:
-    """The share of failed rounds, or code blocks, at a point by its own chunks. If code blocks of a round do not fail `apart`, a
-    round may tell no more of them than one does."""
+    """The share of failed rounds, or code blocks, at a point by its own chunks. If code blocks of a round do not fail `apart`
+    (independently), a round may say no more about them than one does."""
     failed, rounds = float(line.failed[after - 1]), line.rounds
     if of_blocks:
-        told = line.c if apart else 1
-        failed, rounds = line.failed_codeblocks[after - 1] * told / line.c, line.rounds * told
+        worth = line.c if apart else 1
+        failed, rounds = line.failed_codeblocks[after - 1] * worth / line.c, line.rounds * worth
     low, high = wilson(failed, rounds, normal_quantile(1 - tail))
     return Estimate(line.p, after, failed / rounds, low, high, low, high, failed, float(rounds), 1.0)
 
 
 class Plain:
-    """Each point by its own chunks, if the places of a link are not erased one by one. The code blocks of a round fail `apart` if
-    none has to do with another one."""
+    """Each point by its own chunks, if the link does not erase single bits. The code blocks of a round fail `apart` if none has
+    to do with another one. The rate rises with p here too, so the estimates are the isotonic regression of the points' shares."""
 
-    def __init__(self, lines: list[Line], apart: bool = True) -> None:
-        self.points, self.apart = totals(lines), apart
+    def __init__(self, lines: list[Line], numpy: typing.Any, apart: bool = True) -> None:
+        self.points, self.apart, self.numpy = totals(lines), apart, numpy
+        self.fitted: dict[tuple[int, bool], dict[float, float]] = {}
+
+    def at_point(self, line: Line, after: int, tail: float, of_blocks: bool) -> Estimate:
+        """The rate at a point."""
+        if (after, of_blocks) not in self.fitted:
+            shares = [plain_estimate(it, after, tail, of_blocks, self.apart).estimate for it in self.points]
+            array = self.numpy.array
+            rates = isotonic(array(shares), array([float(it.rounds) for it in self.points]), self.numpy).tolist()
+            self.fitted[after, of_blocks] = dict(zip((it.p for it in self.points), rates))
+        found = plain_estimate(line, after, tail, of_blocks, self.apart)
+        estimate = self.fitted[after, of_blocks][line.p]
+        return dataclasses.replace(found, estimate=estimate, low=min(found.low, estimate), high=max(found.high, estimate))
 
     def at(self, p: float, after: int, tail: float = TAIL, of_blocks: bool = False) -> Estimate:
-        """The block error rate. Between two points it is somewhere between their rates. The estimate is on the line between their
-        logarithms, and 0 if nothing failed at one of them."""
+        """The block error rate. Between two points it is between their rates: the estimate is on the line between their logarithms,
+        and 0 if nothing failed at one of them."""
         known = {line.p: line for line in self.points}
         if p in known:
-            return plain_estimate(known[p], after, tail, of_blocks, self.apart)
+            return self.at_point(known[p], after, tail, of_blocks)
         if not min(known) < p < max(known):
             raise Failed(f"no rate is known at {p}: the points are from {min(known)} to {max(known)}")
         low, high = max(q for q in known if q < p), min(q for q in known if q > p)
-        first, last = (plain_estimate(known[q], after, tail, of_blocks, self.apart) for q in (low, high))
+        first, last = (self.at_point(known[q], after, tail, of_blocks) for q in (low, high))
         share = (p - low) / (high - low)
         between = first.estimate ** (1 - share) * last.estimate**share
         return dataclasses.replace(first, p=p, estimate=between, low=first.low, high=last.high, low_if=None, high_if=None)

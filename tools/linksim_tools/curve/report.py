@@ -145,7 +145,7 @@ def commands(curve: Curve, out: pathlib.Path) -> list[str]:
     tool, conf, names = name_of("curve"), str(curve.setting.path), list(map(str, curve.files))
     return [
         shlex.join([tool, "run", conf, "--out", names[0]]), shlex.join([tool, "audit", conf, *names, "--share", "1%"]),
-        shlex.join([tool, "report", conf, *names, "--html", str(out)]),
+        shlex.join([tool, "report", conf, *names, "--out", str(out)]),
     ]
 
 

@@ -15,7 +15,8 @@ import sys
 import typing
 
 from linksim_tools.common import files
-from linksim_tools.common.program import Failed, Wrong, name_of, named_in_faults
+from linksim_tools.common.program import Failed, name_of, named_in_faults
+from linksim_tools.curve import head
 from linksim_tools.curve.draws import threshold_of
 from linksim_tools.curve.source import DIGITS, PARTS, Source, differing, table_and_keys
 
@@ -34,8 +35,8 @@ PROBABILITY = re.compile(r"(?=((?:[01]\.\d+|[1-9](?:\.\d+)?e-\d+)),)")
 # What stands ahead of words that are no fault.
 NOTE = "note: "
 
-# So many lines that are left out are named.
-MOST_SAID = 10
+# At most this many lines of a file that are ignored are named.
+MOST_SAID = 8
 
 # How many code blocks were open with K erased places, by K.
 Counts = typing.Dict[int, int]
@@ -110,6 +111,20 @@ def line_from(text: str) -> Line | None:
     return Line(p, chunk, rounds, c, failed, failed_codeblocks, left, erased, source)
 
 
+def contradiction(line: Line) -> str | None:
+    """What a line says that no chunk can, or None. A round over flipped bits fails without an undecided code block."""
+    for after, (failed, blocks, left) in enumerate(zip(line.failed, line.failed_codeblocks, line.left), 1):
+        if failed > line.rounds:
+            return f"failed_{after} is {failed} of {line.rounds} rounds"
+        if blocks > failed * line.c:
+            return f"failed_codeblocks_{after} is {blocks} in {failed} failed rounds of {line.c} code blocks"
+        if failed > blocks and (blocks or left):
+            return f"failed_{after} is {failed}, more than failed_codeblocks_{after}, which is {blocks}"
+        if left < blocks or left and not blocks:
+            return f"left_{after} is {left} in {blocks} failed code blocks"
+    return None
+
+
 def line_at_end(text: str) -> Line | None:
     """The whole line, with its source, that stands after the beginning of another one; or nothing if there is none. A
     line begins with a probability as Python writes it, and no other field looks like one."""
@@ -131,16 +146,16 @@ def note(text: str) -> None:
 
 
 def lines_from(path: pathlib.Path | str) -> list[Line]:
-    """The lines of a file of results, with its header or without. A line that was cut off while it was written is left
-    out, and a message says so. Among lines that have a source, the same holds for a line without one, or of another
-    number of transmissions."""
+    """The lines of a file of results, with its header or without. A line that was cut off while it was written is ignored, and a
+    message says so. If any line has a source, the same holds for lines without one or with another number of transmissions. A
+    line that contradicts itself is an error."""
     text = files.text_of(path, files.RESULTS)
     found: list[tuple[int, Line]] = []
-    left_out: list[str] = []
+    ignored: list[str] = []
     for number, one in enumerate(text.splitlines(keepends=True), 1):
         line = line_from(one)
         if not one.endswith(("\n", "\r")):
-            left_out.append("the last line has no end")
+            ignored.append("the last line has no end")
         elif line:
             found.append((number, line))
         elif one.startswith("p,chunks,"):
@@ -148,29 +163,29 @@ def lines_from(path: pathlib.Path | str) -> list[Line]:
         elif one.strip() and not one.startswith(("p,chunk,", "#")):
             line = line_at_end(one)
             found += [(number, line)] if line else []
-            left_out.append(f"line {number} {'begins with a line that was cut off' if line else 'is no line of results'}")
-    for said in left_out[:MOST_SAID]:
-        say(f"{path}: {said}, and is left out")
-    if left_out[MOST_SAID:]:
-        say(f"{path}: so are {len(left_out) - MOST_SAID} more")
-    if not found and text.strip() and not text.startswith("p,chunk,"[: len(text)]):
+            ignored.append(f"line {number} {'begins with a line that was cut off' if line else 'is no line of results'}")
+    kept = whole(found, ignored)
+    for said in ignored[:MOST_SAID]:
+        say(f"{path}: {said}; it is ignored")
+    if ignored[MOST_SAID:]:
+        say(f"{path}: {len(ignored) - MOST_SAID} more lines are ignored")
+    if not kept and text.strip() and not text.startswith("p,chunk,"[: len(text)]) and not text.startswith("#"):
         raise Failed(f"{path}: there is no line of results in it")
-    return whole(path, found)
+    for number, line in kept:
+        wrong = contradiction(line)
+        if wrong:
+            raise Failed(f"{path}: line {number} contradicts itself: {wrong}")
+    return [line for _, line in kept]
 
 
-def whole(path: pathlib.Path | str, found: list[tuple[int, Line]]) -> list[Line]:
-    """The lines but those that can only be the beginnings of longer ones: if any has a source, each has one, and as
-    many transmissions."""
+def whole(found: list[tuple[int, Line]], ignored: list[str]) -> list[tuple[int, Line]]:
+    """The lines without those that can only be the beginnings of longer ones: if any has a source, each has one, and as many
+    transmissions."""
     sourced = {len(line.failed) for _, line in found if line.source}
     if len(sourced) != 1:
-        return [line for _, line in found]
-    lines = []
-    for number, line in found:
-        if line.source:
-            lines.append(line)
-        else:
-            say(f"{path}: line {number} has no source, as the others have, and is left out: it was cut off")
-    return lines
+        return found
+    ignored += [f"line {number} was cut off: it has no source, as the others have" for number, line in found if not line.source]
+    return [(number, line) for number, line in found if line.source]
 
 
 def log_of(path: pathlib.Path) -> pathlib.Path:
@@ -180,16 +195,18 @@ def log_of(path: pathlib.Path) -> pathlib.Path:
 
 @contextlib.contextmanager
 def results_file(path: pathlib.Path) -> typing.Iterator[io.FileIO]:
-    """The file of results, open at its end and for this run alone."""
+    """The file of results, open at its end and for this run alone. If it can only be read, it is open for reading, and fails when
+    it is written: a run may have nothing to do."""
     if str(path) == "-" or os.path.exists(path) and not os.path.isfile(path):
-        raise Wrong(f"{path} is no regular file: what was found is kept there, and read again")
-    with open(path, "a+b", buffering=0) as file:
+        raise Failed(f"{path} is no regular file: results are kept there, and read again")
+    may_write = not os.path.exists(path) or os.access(path, os.W_OK)
+    with open(path, "a+b" if may_write else "rb", buffering=0) as file:
         try:
-            fcntl.flock(file, fcntl.LOCK_EX | fcntl.LOCK_NB)
+            fcntl.flock(file, (fcntl.LOCK_EX if may_write else fcntl.LOCK_SH) | fcntl.LOCK_NB)
         except BlockingIOError:
             raise Failed(f"{path}: another run writes there") from None
         except OSError as error:
-            raise Wrong(f"{path} cannot be locked there: {error.strerror}") from None
+            raise Failed(f"{path} cannot be locked there: {error.strerror}") from None
         yield file
 
 
@@ -198,18 +215,34 @@ def comments_of(path: pathlib.Path) -> list[str]:
     return [line for line in path.read_text(encoding="utf-8").splitlines() if line.startswith("#")]
 
 
+def comments_of_all(paths: typing.Sequence[pathlib.Path | str]) -> list[str]:
+    """The comments of the first file that has any, and what others say beside."""
+    found: list[str] = []
+    for path in map(pathlib.Path, paths):
+        some = comments_of(path) if path.is_file() else []
+        found += head.without(some) if found else some
+    return list(dict.fromkeys(found))
+
+
 def rewrite(path: pathlib.Path, comments: list[str], lines: list[Line]) -> None:
-    """Writes a file of results anew, in order: what was there stays until all of it is on the disk."""
+    """Writes a file of results in order, unless it has the same octets already: what was there stays until all of it is on disk."""
     texts = [*comments, header(len(lines[0].failed)), *(line.text() for line in sorted(lines, key=Line.key))]
+    octets = "".join(f"{text}\n" for text in texts).encode()
     whole = path.resolve()
+    if whole.read_bytes() == octets:
+        return
     new = whole.with_name(f".{path.name}.new")
     with named_in_faults(new):
-        with open(new, "w", encoding="utf-8") as file:
-            file.writelines(f"{text}\n" for text in texts)
-            file.flush()
-            os.fsync(file.fileno())
-        shutil.copymode(whole, new)
-        new.replace(whole)
+        try:
+            with open(new, "wb") as file:
+                file.write(octets)
+                file.flush()
+                os.fsync(file.fileno())
+            shutil.copymode(whole, new)
+            new.replace(whole)
+        except BaseException:
+            new.unlink(missing_ok=True)
+            raise
 
 
 def merged(paths: typing.Sequence[pathlib.Path | str]) -> list[Line]:
@@ -217,9 +250,11 @@ def merged(paths: typing.Sequence[pathlib.Path | str]) -> list[Line]:
     from two sources."""
     found: dict[tuple[int, int], Line] = {}
     sources: dict[str, pathlib.Path | str] = {}
+    shapes: dict[tuple[int, int], pathlib.Path | str] = {}
     for path in paths:
         for line in lines_from(path):
             sources.setdefault(line.source, path)
+            shapes.setdefault((len(line.failed), line.c), path)
             if len(sources) > 1:
                 raise Failed(two_sources(sources))
             other = found.setdefault(line.key(), line)
@@ -227,9 +262,17 @@ def merged(paths: typing.Sequence[pathlib.Path | str]) -> list[Line]:
                 raise Failed(
                     f"{path}: chunk {line.chunk} of the point {line.p} stands there with other numbers than before"
                 )
-    if len({(len(line.failed), line.c) for line in found.values()}) > 1:
-        raise Failed("the files are of different curves: they differ in transmissions or code blocks")
+    judge_shapes(shapes)
     return [found[key] for key in sorted(found)]
+
+
+def judge_shapes(shapes: typing.Mapping[tuple[int, int], pathlib.Path | str]) -> None:
+    """Fails if files have lines of different numbers of transmissions or code blocks, each named with the file that has it
+    first."""
+    if len(shapes) > 1:
+        (one, here), (other, there) = list(shapes.items())[:2]
+        texts = [f"{path} has {sent} transmissions of {c} code blocks" for (sent, c), path in ((one, here), (other, there))]
+        raise Failed(f"the results belong to different curves: {' and '.join(texts)}")
 
 
 def two_sources(sources: typing.Mapping[str, pathlib.Path | str]) -> str:
@@ -246,16 +289,17 @@ def two_sources(sources: typing.Mapping[str, pathlib.Path | str]) -> str:
     return f"{said}; {name_of('curve')} audit CONF FILE --restamp tries a share of the older ones, and takes them over"
 
 
-def judge(setting: Setting, lines: list[Line]) -> None:
-    """Fails if the lines are not of this curve; another program may have made them."""
+def judge(setting: Setting, lines: list[Line], paths: typing.Sequence[pathlib.Path | str]) -> None:
+    """Fails if the lines of files are not of this curve; another program may have made them."""
+    names = ", ".join(map(str, paths))
     if not lines:
-        raise Failed("there is no line in these files")
+        raise Failed(f"{names}: there is no line of results")
     there, count = lines[0].source, len(lines[0].failed)
     if count != len(setting.rvs):
-        raise Failed(f"the results are of {count} transmissions, and {setting.path} has {len(setting.rvs)}")
+        raise Failed(f"{names}: the results are of {count} transmissions, and {setting.path} has {len(setting.rvs)}")
     now = Source(there, *table_and_keys(setting)).text()
     if there and there != now:
-        raise Failed(f"the results are of another curve than {setting.path}: {differing(there, now)} differs ({there}, {now})")
+        raise Failed(f"{names}: not the curve of {setting.path}: {differing(there, now)} differs ({there}, {now})")
 
 
 def totals(lines: list[Line]) -> list[Line]:

@@ -12,14 +12,15 @@ import sys
 import typing
 
 from linksim_tools.common.program import Failed, name_of, named_in_faults
-from linksim_tools.curve import outlook, plan
+from linksim_tools.curve import head, outlook, plan
 from linksim_tools.curve.draws import threshold_of
 from linksim_tools.curve.engines import Call, Engine
-from linksim_tools.curve.making import shape_of
+from linksim_tools.curve.making import shape_of, simulator_of
 from linksim_tools.curve.packages import numpy_for
 from linksim_tools.curve.results import (
     Line, comments_of, header, line_from, log_of, merged, note, results_file, rewrite, say, two_sources
 )
+from linksim_tools.curve.silence import SILENCE, Silence
 from linksim_tools.curve.source import Watch, source_of
 from linksim_tools.curve.tasks import Costs, batches
 
@@ -36,9 +37,9 @@ class Rule:
     """Which chunks a run wants next. A wave follows from the file and from all waves before it, never from what makes them or
     when. So it is found again after an interruption, and the same chunks are made everywhere."""
 
-    def __init__(self, setting: Setting, program: pathlib.Path) -> None:
+    def __init__(self, setting: Setting) -> None:
         self.setting = setting
-        self.shape = shape_of(setting, program) if setting.width else None
+        self.shape = shape_of(setting) if setting.width else None
         self.numpy = numpy_for("the key width") if setting.width else None
         self.past: list[Line] = []
 
@@ -88,6 +89,7 @@ class Kept:
     lines: list[Line]
     costs: Costs
     keys: set[tuple[int, int]] = dataclasses.field(default_factory=set)
+    has_noted: bool = False
 
     @property
     def log(self) -> pathlib.Path:
@@ -104,12 +106,18 @@ class Kept:
         if self.log.exists():
             for line in self.log.read_text(errors="replace").splitlines():
                 self.learn(line)
-        else:
-            self.put_log(LOG_HEADER)
         self.file.seek(0)
         text = self.file.read()
-        if not self.file.truncate(1 + max(map(text.rfind, (b"\n", b"\r")))):
-            self.put(header(len(self.call.setting.rvs)))
+        whole = 1 + max(map(text.rfind, (b"\n", b"\r")))
+        if whole < len(text):
+            self.file.truncate(whole)
+        if not whole:
+            self.put("\n".join([*head.of(self.call.setting, self.call.program), header(len(self.call.setting.rvs))]))
+
+    def expect(self, tasks: list[Task], foreseen: list[Task] | None) -> None:
+        """Says in the log what comes, for `status`."""
+        now = datetime.datetime.now(datetime.timezone.utc).isoformat(timespec="seconds")
+        self.put_log(f"# {now},{len(self.lines)},{len(tasks)},{'' if foreseen is None else len(foreseen)}")
 
     def learn(self, text: str) -> tuple[float, int] | None:
         """The cost of a line of the log, if it is one."""
@@ -124,6 +132,8 @@ class Kept:
     def put(self, text: str) -> None:
         """Writes a line of results, which is then on the disk."""
         octets = f"{text}\n".encode()
+        if not self.file.writable():
+            raise Failed(f"{self.path} cannot be written, and chunks are to come")
         with named_in_faults(self.path):
             while octets:
                 octets = octets[self.file.write(octets) :]
@@ -135,9 +145,9 @@ class Kept:
             rewrite(self.path, comments_of(self.path), self.lines)
 
     def put_log(self, text: str) -> None:
-        """Writes a line of the log."""
+        """Writes a line of the log, and its header before the first."""
         with named_in_faults(self.log), open(self.log, "a", encoding="utf-8") as file:
-            file.write(f"{text}\n")
+            file.write(f"{text}\n" if file.tell() else f"{LOG_HEADER}\n{text}\n")
 
     def take(self, text: str) -> Line | None:
         """Keeps what `point` wrote: a chunk, which is given back if it was not there yet, or what it cost."""
@@ -173,26 +183,29 @@ def kept(call: Call, out: pathlib.Path) -> typing.Iterator[Kept]:
             raise
 
 
-def run(setting: Setting, program: pathlib.Path, out: pathlib.Path, engine: Engine, only_estimate: bool = False) -> None:
+def run(
+    setting: Setting, program: pathlib.Path, out: pathlib.Path, engine: Engine, only_estimate: bool = False,
+    silence: float = SILENCE,
+) -> None:
     """Makes all chunks that are wanted, each written to the file of results as soon as it is there."""
     with contextlib.closing(engine):
+        if setting.is_pooled:
+            simulator_of(setting)  # which says what the library rejects, before anything is written
         watch, call = Watch(setting, program), Call(setting, program, source_of(setting, program))
-        rule, bar = Rule(setting, program), outlook.Bar()
+        rule, bar = Rule(setting), outlook.Bar()
         with kept(call, out) as found, going_on(found), contextlib.closing(bar):
             for text in engine.recovered(call):
                 line = line_from(text)
                 if line and line.source == call.source.text():
                     found.take(text)
-            if engine.slots() > setting.wave:
-                idle = f"a wave of {setting.path} has {setting.wave} chunks, so that some of {engine.slots()} at a time may idle"
-                note(f"{idle}; wave = {engine.slots()} there gives all of them work")
             while True:
                 watch.judge()
                 tasks, foreseen = rule.next(found.lines)
                 if not tasks or only_estimate and rule.is_told(tasks, foreseen):
                     break
                 bar.expect(len(tasks), None if foreseen is None else len(foreseen))
-                for line in made(engine, found, tasks):
+                found.expect(tasks, foreseen)
+                for line in made(engine, found, tasks, silence):
                     watch.judge()
                     bar.step(line.p)
             if only_estimate:
@@ -213,11 +226,18 @@ def going_on(found: Kept) -> typing.Iterator[None]:
         raise
 
 
-def made(engine: Engine, found: Kept, tasks: list[Task]) -> typing.Iterator[Line]:
-    """The chunks of a wave as they come."""
-    shares = batches(tasks, found.costs, engine.least, engine.most())
-    with contextlib.closing(typing.cast("typing.Generator[str, None, None]", engine.lines(found.call, shares))) as texts:
+def made(engine: Engine, found: Kept, tasks: list[Task], silence: float) -> typing.Iterator[Line]:
+    """The chunks of a wave as they come. If none comes for so many seconds, what is waited for is reported."""
+    slots, setting = engine.slots(), found.call.setting
+    shares = batches(tasks, found.costs, engine.longest, slots, engine.most())
+    if setting.wave <= len(tasks) == len(shares) < slots and found.costs.sums and not found.has_noted:
+        found.has_noted = True
+        note(f"{len(tasks)} of {slots} slots have work, because a wave has {setting.wave} chunks: wave = {slots} in {setting.path} "
+             "gives work to all")
+    texts = typing.cast("typing.Generator[str, None, None]", engine.lines(found.call, shares))
+    with contextlib.closing(texts), Silence(silence, engine.waiting) as watch:
         for text in texts:
+            watch.heard()
             line = found.take(text)
             if line:
                 yield line

@@ -7,7 +7,7 @@ import pathlib
 import shlex
 import typing
 
-from linksim_tools.common.program import Failed, Wrong, name_of
+from linksim_tools.common.program import Failed, name_of
 from linksim_tools.curve.chunks import failed_rounds, lines_of, parts_of, schedule_of, sendings_of, write_files
 
 if typing.TYPE_CHECKING:
@@ -50,7 +50,7 @@ def write_failed(
     It answers the rounds, and the command that shows what they are stuck on. If none fails, nothing is written."""
     there = pathlib.Path(folder)
     if there.is_dir() and any(there.iterdir()):
-        raise Wrong(f"{folder} is there, and is no empty folder")
+        raise Failed(f"{folder} exists and is not empty")
     turns = failed_rounds(setting, program, p, chunk, after)
     if not turns:
         return turns, None

@@ -4,9 +4,10 @@ from __future__ import annotations
 
 import dataclasses
 import pathlib
+import re
 import typing
 
-from linksim_tools.common import toml_file
+from linksim_tools.common import files, toml_file
 from linksim_tools.common.program import Failed, settings_text
 from linksim_tools.curve.draws import threshold_of
 
@@ -14,9 +15,9 @@ from linksim_tools.curve.draws import threshold_of
 NUMBERS = [
     ("a", 8, 1_310_720),
     ("rate2048", 1, 2048),
-    ("lbrm", 0, 2**32 - 1),
+    ("lbrm", 1, 2**32 - 1),
     ("g", 1, 4_194_304),
-    ("qm", 1, 8),
+    ("qm", 1, 10),
     ("nl", 1, 4),
     ("seed", 0, 2**64 - 1),
     ("rounds", 1, 1_000_000),
@@ -24,6 +25,8 @@ NUMBERS = [
     ("chunks", 1, 10**9),
     ("wave", 1, 100_000),
 ]
+# The bits of a symbol: pi/2-BPSK, QPSK, 16QAM, 64QAM and 256QAM (TS 38.211).
+MODULATIONS = (1, 2, 4, 6, 8)
 OPTIONAL = {"lbrm", "step", "link", "errors", "width", "lowest", "wave", "unit", "burst"}
 OTHERS = {"table", "rvs", "points", "step", "link", "width", "lowest", "unit", "burst"}
 LINKS = ("erase", "flip")
@@ -95,6 +98,8 @@ def judge(path: pathlib.Path, keys: dict[str, typing.Any]) -> None:
     for name, low, high in NUMBERS:
         if name in keys and not is_number(keys[name], low, high):
             raise Failed(f"{path}: {name} is not an integer from {low} to {high}")
+    if keys["qm"] not in MODULATIONS:
+        raise Failed(f"{path}: qm is not 1, 2, 4, 6 or 8{'; 1024QAM (qm = 10) is of Release 17' if keys['qm'] == 10 else ''}")
     if keys["a"] % 8:
         raise Failed(f"{path}: a is not a multiple of 8: blocks have whole octets")
     if keys.get("link", "erase") not in LINKS:
@@ -139,10 +144,19 @@ def judge_rule(path: pathlib.Path, keys: dict[str, typing.Any]) -> None:
             raise Failed(f"{path}: {name} is not a number from {least:g} to 0.9")
 
 
+def keys_in(path: pathlib.Path) -> str:
+    """The keys in the head of a file of results (head.py)."""
+    text = files.text_of(path, files.RESULTS)
+    found = "".join(f"{line[2:]}\n" for line in text.splitlines() if re.match(r"# \w+ = ", line))
+    if not text.startswith("## ") or not found:
+        raise Failed(f"{path} has no head with the keys of its curve: name the curve's TOML file")
+    return found
+
+
 def read_setting(name: str | pathlib.Path) -> Setting:
-    """The setting of a TOML file, or a failure with its first fault."""
+    """The setting of a TOML file, or of the head of a file of results, or a failure with its first fault."""
     path = pathlib.Path(name)
-    keys: dict[str, typing.Any] = toml_file.read(path)
+    keys: dict[str, typing.Any] = toml_file.parsed(path, keys_in(path).encode()) if path.suffix == ".csv" else toml_file.read(path)
     judge(path, keys)
     others: dict[str, typing.Any] = {"path": path, "table": path.parent / keys["table"], "lbrm": keys.get("lbrm")}
     points = {threshold_of(p): float(p) for p in reversed(keys["points"])}

@@ -1,17 +1,15 @@
-"""Rounds of a chunk made by the library, which takes no text and encodes nothing: the same rounds as the program makes."""
+"""Rounds of a chunk made by the library: the same rounds as the program makes, without encoding anything."""
 
 from __future__ import annotations
 
 import array
 import collections
-import functools
 import itertools
 import operator
-import os
 import pathlib
 import typing
 
-from linksim_tools.common.library import module_beside
+import nr
 from linksim_tools.curve.chunks import MOST_TRANSMISSIONS
 
 if typing.TYPE_CHECKING:
@@ -24,20 +22,19 @@ SLICES = 64
 
 
 class Simulator:
-    """Makes the rounds of a setting by the module nr."""
+    """Makes the rounds of a setting over a table by the module nr."""
 
-    def __init__(self, setting: Setting, module: typing.Any) -> None:
-        self.setting, self.module = setting, module
-        self.table = module.Table.open(setting.table)
-        self.txs = [module.Tx(setting.g, rv, setting.qm, setting.nl) for rv in setting.rvs]
+    def __init__(self, setting: Setting, table: nr.Table) -> None:
+        self.setting, self.table = setting, table
+        self.txs = [nr.Tx(g=setting.g, rv=rv, qm=setting.qm, nl=setting.nl) for rv in setting.rvs]
         # The library makes 64 rounds at once.
         self.at_a_time = max(SLICES, MOST_TRANSMISSIONS // len(self.txs) // SLICES * SLICES)
 
     def rounds(self, p: float, chunk: int, first: int, count: int) -> typing.Any:
         """What comes of some rounds of a chunk."""
-        return self.module.simulate(
+        return nr.simulate(
             self.table, self.setting.a, self.txs, p=p, rounds=count, first=first, seed=self.setting.seed, chunk=chunk, jobs=1,
-            rate2048=self.setting.rate2048, lbrm=self.setting.lbrm or 0,
+            rate2048=self.setting.rate2048, lbrm=self.setting.lbrm,
         )
 
     def count(self, tally: Tally) -> None:
@@ -69,27 +66,6 @@ def columns_of(given: typing.Any) -> list[list[array.array[int]]]:
     return [[flat[k * c + r :: sent * c] for r in range(c)] for k in range(sent)]
 
 
-def files_of(module: typing.Any) -> list[pathlib.Path]:
-    """The files of a module and of its library, on which what it makes depends. NR_LIBRARY may name a library of any name."""
-    named = os.path.realpath(os.environ.get("NR_LIBRARY") or "/libnr.so")
-    with open("/proc/self/maps", encoding="utf-8", errors="replace") as maps:
-        paths = {line.split(maxsplit=5)[5].strip() for line in maps if "/" in line}
-    loaded = {path for path in paths if path == named or "/libnr.so" in path}
-    return [*map(pathlib.Path, sorted(loaded)), *sorted(pathlib.Path(module.__file__).parent.glob("*.py"))]
-
-
-@functools.lru_cache(maxsize=8)
-def simulator_of(setting: Setting, program: pathlib.Path) -> Simulator | None:
-    """What makes the rounds of a setting if the library stands beside the program. What it refuses the program refuses too,
-    and says it in its own words."""
-    if not setting.is_pooled or setting.lbrm == 0:  # 0 is no limit to the library, and refused by the program
-        return None
-    module = module_beside(program)
-    if module is None:
-        return None
-    try:
-        found = Simulator(setting, module)
-        found.rounds(0.0, 0, 0, 0)
-    except (module.Fault, OSError):
-        return None
-    return found
+def files_of_library() -> list[pathlib.Path]:
+    """The files of the library and of its module nr, on which what they make depends."""
+    return [nr.library_base(), *sorted(pathlib.Path(nr.__file__).parent.glob("*.py"))]

@@ -9,9 +9,11 @@ import os
 import pathlib
 import typing
 
+import nr
 from linksim_tools.common import provenance
-from linksim_tools.common.program import Failed, output_of
-from linksim_tools.curve.simulating import files_of, simulator_of
+from linksim_tools.common.program import Failed, version_of
+from linksim_tools.curve import binary
+from linksim_tools.curve.simulating import files_of_library
 
 if typing.TYPE_CHECKING:
     from linksim_tools.curve.setting import Setting
@@ -46,8 +48,7 @@ def keys_that_count(setting: Setting) -> list[str]:
 
 @dataclasses.dataclass(frozen=True)
 class Source:
-    """The SHA-256 of what makes a chunk, of the table's file, and of the keys. A chunk is made by the program, of a version and a
-    file, or by the library beside it."""
+    """The SHA-256 of what makes a chunk, which is the library or the program, of the table's file, and of the keys."""
 
     program: str
     table: str
@@ -72,23 +73,31 @@ def table_and_keys(setting: Setting) -> tuple[str, str]:
     return digest_of("table", sha256_of(setting.table)), digest_of("keys", keys_of(setting))
 
 
+def makers_of(setting: Setting, program: pathlib.Path) -> list[pathlib.Path]:
+    """The files that make the chunks: the library and its module, or the program if not single bits are erased."""
+    return files_of_library() if setting.is_pooled else [program]
+
+
+def digest_of_maker(path: pathlib.Path) -> str:
+    """The SHA-256 of such a file."""
+    return sha256_of(path) if path.suffix == ".py" else binary.sha256_of(path)
+
+
+def version_of_maker(setting: Setting, program: pathlib.Path) -> str:
+    """The version of the library or program."""
+    return nr.__version__ if setting.is_pooled else version_of(program)
+
+
 def source_of(setting: Setting, program: pathlib.Path) -> Source:
-    """The source of the chunks of a setting that a program makes, or the library beside it."""
-    version = output_of(program, ["--version"]).strip()
-    makers = map(sha256_of, [program, *library_files(setting, program)])
-    return Source(digest_of("program", version, *makers), *table_and_keys(setting))
-
-
-def library_files(setting: Setting, program: pathlib.Path) -> list[pathlib.Path]:
-    """The files of the library, if that makes the chunks."""
-    simulator = simulator_of(setting, program)
-    return files_of(simulator.module) if simulator else []
+    """The source of the chunks of a setting."""
+    version = f"linksim {version_of_maker(setting, program)}"
+    return Source(digest_of("program", version, *map(digest_of_maker, makers_of(setting, program))), *table_and_keys(setting))
 
 
 def differing(one: str, other: str) -> str:
     """What differs in two sources, in words."""
     pairs = zip(PARTS, one.split("-"), other.split("-"))
-    named = {"program": "the program or its library", "table": "the table", "keys": f"one of the keys {', '.join(KEYS + UNITS)}"}
+    named = {"program": "the library or program", "table": "the table", "keys": f"one of the keys {', '.join(KEYS + UNITS)}"}
     return " and ".join(named[part] for part, here, there in pairs if here != there) or "nothing"
 
 
@@ -105,8 +114,8 @@ class Watch:
     """The files on which a run depends, which must not change while it goes on."""
 
     def __init__(self, setting: Setting, program: pathlib.Path) -> None:
-        self.names = {program: "program", setting.table: "table", setting.path: "file"}
-        self.names.update(dict.fromkeys(library_files(setting, program), "library"))
+        self.names = {setting.table: "table", setting.path: "file"}
+        self.names.update(dict.fromkeys(makers_of(setting, program), "library" if setting.is_pooled else "program"))
         self.marks = {path: self.mark(path) for path in self.names}
         self.digests = {path: sha256_of(path) for path in self.names}
 

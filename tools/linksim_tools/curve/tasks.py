@@ -2,12 +2,17 @@
 
 from __future__ import annotations
 
+import heapq
+import math
 import typing
 
 from linksim_tools.common.program import Wrong
 
 if typing.TYPE_CHECKING:
     from linksim_tools.curve.making import Task
+
+# A batch is not made shorter than this many seconds to give each slot its share.
+SHORTEST = 5.0
 
 
 def probability(text: str) -> float:
@@ -78,17 +83,19 @@ class Costs:
         return total / count
 
 
-def batches(tasks: typing.Sequence[Task], costs: Costs, least: float, most: int) -> list[list[Task]]:
-    """The chunks in at most `most` shares of equal cost, the longest first. Each share has at least `least` seconds of
-    work, as far as the costs are known."""
+def batches(tasks: typing.Sequence[Task], costs: Costs, longest: float, slots: int, most: int) -> list[list[Task]]:
+    """The chunks in at most `most` batches of about equal cost, the longest first. A batch takes at most `longest` seconds, and at
+    most what each slot gets of the work, unless that is below SHORTEST seconds. One chunk may take longer, and if costs are not
+    known each chunk is a batch."""
     total = sum(costs.of(p) for p, _ in tasks)
     count = min(most, len(tasks))
-    if 0 < total < least * count:
-        count = max(1, int(total / least))
+    if total:
+        count = max(1, min(count, math.ceil(total / max(1e-9, min(longest, max(SHORTEST, total / slots))))))
     shares: list[list[Task]] = [[] for _ in range(count)]
-    sums = [0.0] * count
+    sums = [(0.0, seat) for seat in range(count)]
     for place, task in enumerate(sorted(tasks, key=lambda it: (-costs.of(it[0]), it))):
-        seat = min(range(count), key=lambda at: (sums[at], at)) if total else place % count
+        cost, seat = heapq.heappop(sums) if total else (0.0, place % count)
         shares[seat].append(task)
-        sums[seat] += costs.of(task[0])
-    return [share for _, share in sorted(zip(sums, shares), key=lambda it: -it[0]) if share]
+        heapq.heappush(sums, (cost + costs.of(task[0]), seat)) if total else None
+    made = [(sum(costs.of(p) for p, _ in share), share) for share in shares if share]
+    return [share for _, share in sorted(made, key=lambda it: -it[0])]

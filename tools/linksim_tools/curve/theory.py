@@ -8,12 +8,13 @@ import math
 import pathlib
 import typing
 
-from linksim_tools.common import files, rate_matching
+import nr
+from linksim_tools.common import files
 from linksim_tools.common.graphs import GRAPHS
-from linksim_tools.common.program import Failed, plan_of_block
+from linksim_tools.common.program import Failed
 from linksim_tools.conform.code import entries_of
-from linksim_tools.curve.chunks import block_of
-from linksim_tools.curve.pool import binomial, window
+from linksim_tools.curve.failures import binomial, window
+from linksim_tools.curve.making import shape_of
 
 if typing.TYPE_CHECKING:
     from linksim_tools.common.graphs import Graph
@@ -50,28 +51,24 @@ def rows_of_table(path: pathlib.Path, graph: int) -> tuple[tuple[int, ...], ...]
     return tuple(tuple(column for column, _ in row) for row in tables[graph])
 
 
-def code_of(setting: Setting, program: pathlib.Path) -> Code:
+def code_of(setting: Setting) -> Code:
     """The code of a setting over erasures; over flips there is no limit and no stopping set to speak of."""
     if setting.link != "erase":
         raise Failed(f"{setting.path} flips bits: limits and stopping sets are those of erasures")
-    plan = plan_of_block(program, setting.rate2048, block_of(setting))
+    try:
+        plan = {"a": setting.a, **nr.plan(setting.a, rate2048=setting.rate2048)._asdict()}
+    except nr.Fault as fault:
+        raise Failed(f"{setting.path}: {fault}") from None
     return Code(plan, rows_of_table(setting.table, plan["graph"]))
-
-
-def lengths_of(setting: Setting, code: Code) -> list[int]:
-    """How many bits a transmission sends of each code block, the shorter ones first."""
-    shared = rate_matching.lengths(setting.g, setting.qm, setting.nl, range(code.plan["c"]))
-    return list(shared.values())
 
 
 def times_sent(setting: Setting, code: Code, length: int, after: int) -> list[int]:
     """How often each of the N positions of a code block is sent in so many transmissions of `length` bits."""
     plan = code.plan
-    ncb = rate_matching.buffer_length(plan, setting.lbrm)
     fillers = range(plan["kdash"] - 2 * plan["z"], plan["k"] - 2 * plan["z"])
     times = [0] * plan["n"]
     for rv in setting.rvs[:after]:
-        start = rate_matching.start(plan, ncb, rv)
+        ncb, start = nr.buffer(setting.a, rv, rate2048=setting.rate2048, lbrm=setting.lbrm)
         places = [place for place in (*range(start, ncb), *range(start)) if place not in fillers]
         rounds, rest = divmod(length, len(places))
         for index, place in enumerate(places):
@@ -148,7 +145,7 @@ def evolution_threshold(
 
 def threshold_after(setting: Setting, code: Code, after: int) -> float:
     """The density evolution threshold of a setting after so many transmissions, by its shortest code blocks."""
-    times = times_sent(setting, code, lengths_of(setting, code)[0], after)
+    times = times_sent(setting, code, shape_of(setting).lengths[0], after)
     return evolution_threshold(code.rows, shares_of(code, times), code.graph().information)
 
 
@@ -179,7 +176,7 @@ def least_rate(p: float, heard: typing.Mapping[int, int], bits: int, numpy: typi
 def counting_bound(setting: Setting, code: Code, after: int, numpy: typing.Any) -> typing.Any:
     """A function of p: how often any decoder at least misses a code block, since fewer places arrive than it has bits."""
     groups = []
-    for length, blocks in collections.Counter(lengths_of(setting, code)).items():
+    for length, blocks in collections.Counter(shape_of(setting).lengths).items():
         heard = collections.Counter(times for times in times_sent(setting, code, length, after) if times)
         groups.append((heard, blocks))
     bits = free_bits(code)

@@ -43,6 +43,6 @@ def say_audits(curve: Curve) -> None:
         failed = f"{line.failed[after - 1]} of the {line.rounds} rounds of chunk {line.chunk} failed"
         print(f"\nAfter {after}: at p {line.p} {failed}.")
         print("The files of these rounds, and what they are stuck on; or the stopping sets of the chunk by size:")
-        print("  " + shlex.join([name_of("curve"), "failed", *words, folder, "--after", str(after)]))
+        print("  " + shlex.join([name_of("curve"), "failed", *words, "--after", str(after), "--out", folder]))
         print("  " + shlex.join([short_path(curve.program), "audit", *files, "--schedule", f"{folder}/schedule.csv"]))
         print("  " + shlex.join([name_of("curve"), "sets", *words, "--after", str(after)]))

@@ -7,6 +7,7 @@ import pathlib
 import typing
 
 from linksim_tools.common.program import Failed
+from linksim_tools.common.tables import table_at
 from linksim_tools.curve import results
 from linksim_tools.curve.making import shape_of
 from linksim_tools.curve.packages import numpy_for
@@ -41,17 +42,17 @@ class Curve:
         """The chunks of all points taken together, if that can be done."""
         if not self.setting.is_pooled or not all(line.source for line in self.lines):
             return None
-        return Pool(self.setting, shape_of(self.setting, self.program), self.lines, numpy_for("a curve over erasures"))
+        return Pool(self.setting, shape_of(self.setting), self.lines, numpy_for("a curve over erasures"))
 
     def rates(self) -> Rates:
         """Its rates: pooled, or by point."""
-        return self.pool() or Plain(self.lines, self.setting.is_single)
+        return self.pool() or Plain(self.lines, numpy_for("a curve"), self.setting.is_single)
 
     def code(self) -> Code | None:
         """What theory needs, over erasures; a failure if the results have another number of code blocks."""
         if self.setting.link != "erase":
             return None
-        code, there = code_of(self.setting, self.program), self.lines[0].c
+        code, there = code_of(self.setting), self.lines[0].c
         if there != code.plan["c"]:
             raise Failed(f"the results are of {there} code blocks, and {self.setting.path} has {code.plan['c']}")
         return code
@@ -62,8 +63,7 @@ class Curve:
         digest = ""
         if code is not None:
             graph, index = code.plan["graph"], code.plan["set"]
-            sent = fingerprint.sent(self.program, setting.table, graph)[index]
-            digest = f" (graph {graph} set {index} {fingerprint.digest_of(sent)})"
+            digest = f" (graph {graph} set {index} {fingerprint.digest(table_at(setting.table), graph, index)})"
         buffer = "" if setting.lbrm is None else f", lbrm {setting.lbrm}"
         rounds = sum(line.rounds for line in self.lines)
         keys = f"rate {setting.rate2048}/2048{buffer}, Qm {setting.qm}, NL {setting.nl}, G {setting.g}"
@@ -74,7 +74,7 @@ def curve_of(setting: Setting, program: pathlib.Path, files: typing.Sequence[str
     """A curve with the results of files, or of its own; a failure if they are of another one."""
     paths = [pathlib.Path(file) for file in files] or [setting.path.with_suffix(".csv")]
     lines = results.merged(paths)
-    results.judge(setting, lines)
+    results.judge(setting, lines, paths)
     return Curve(setting, program, paths, lines)
 
 

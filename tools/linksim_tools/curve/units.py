@@ -14,7 +14,7 @@ from __future__ import annotations
 import math
 import typing
 
-from linksim_tools.curve.draws import first_words, threshold_of
+from linksim_tools.curve.draws import drawn_places, marks, threshold_of
 
 if typing.TYPE_CHECKING:
     from linksim_tools.curve.setting import Setting
@@ -45,15 +45,15 @@ def erased(setting: Setting, seed: int, threshold: int) -> list[int]:
     """The units that are erased."""
     count = count_of(setting)
     if setting.burst is None:
-        return [unit for unit, word in enumerate(first_words(seed, count)) if word < threshold]
+        return drawn_places(seed, threshold, count)
     enter, leave = setting.burst
-    words = first_words(seed, 2 * count + 1)
-    turns = threshold_of(enter), threshold_of(leave)
-    bad, found = words[0] < threshold_of(enter / (enter + leave)), []
+    below = marks(seed, threshold, 2 * count + 1)
+    turns = [marks(seed, threshold_of(chance), 2 * count + 1) for chance in (enter, leave)]
+    bad, found = bool(marks(seed, threshold_of(enter / (enter + leave)), 1)[0]), []
     for unit in range(count):
-        if bad and words[2 * unit + 1] < threshold:
+        if bad and below[2 * unit + 1]:
             found.append(unit)
-        bad ^= words[2 * unit + 2] < turns[bad]
+        bad ^= bool(turns[bad][2 * unit + 2])
     return found
 
 

@@ -8,8 +8,8 @@ import shlex
 import sys
 import typing
 
-from linksim_tools.common.program import Wrong
-from linksim_tools.curve.results import NOTE
+from linksim_tools.common.program import Wrong, name_of
+from linksim_tools.curve.results import NOTE, say
 
 if typing.TYPE_CHECKING:
     from linksim_tools.curve.making import Task
@@ -46,8 +46,8 @@ class Call:
 class Engine(typing.Protocol):
     """Makes chunks side by side."""
 
-    least: float
-    """How many seconds of work a batch holds at least, once it is known how long a chunk takes."""
+    longest: float
+    """How many seconds a batch takes at most, once it is known how long a chunk takes."""
 
     def slots(self) -> int:
         """How many batches are made at a time."""
@@ -62,11 +62,15 @@ class Engine(typing.Protocol):
     def lines(self, call: Call, batches: list[list[Task]]) -> typing.Iterator[str]:
         """What `point` writes of batches, line by line as they come. To close it ends what is still made."""
 
+    def waiting(self) -> str:
+        """What has not answered, for a run that has waited long."""
+        return "its engine"
+
     def close(self) -> None:
         """Ends what the engine started."""
 
 
-def engine_named(text: str, jobs: int | None, least: float | None, latency: float | None, out: pathlib.Path) -> Engine:
+def engine_named(text: str, jobs: int | None, longest: float | None, latency: float | None, out: pathlib.Path) -> Engine:
     """The engine that a word names; results go to `out`. Slurm's files are looked for so many seconds after a job's end."""
     kind, _, at = text.partition(":")
     if jobs is not None and kind in ("ssh", "dask"):
@@ -95,9 +99,19 @@ def engine_named(text: str, jobs: int | None, least: float | None, latency: floa
         engine = Dask(at)
     else:
         raise Wrong(f"--engine is local, ssh:8/one,16/two, slurm, slurm:OPTIONS of sbatch or dask:ADDRESS, and not {text}")
-    if least is not None:
-        engine.least = least
+    if longest is not None:
+        engine.longest = longest
     return engine
+
+
+def detach(engine: Engine, out: pathlib.Path) -> None:
+    """Sends the run itself to a cluster, by the words of this one."""
+    from linksim_tools.curve.engines.slurm import Slurm
+
+    if not isinstance(engine, Slurm):
+        raise Wrong("--detach is for --engine slurm: elsewhere start the run in the background")
+    job = engine.detached([str(TOOL), *(word for word in sys.argv[1:] if word != "--detach")])
+    say(f"the run is job {job}; {name_of('curve')} status {out} says how far it is")
 
 
 def first_fault(text: str, otherwise: str) -> str:

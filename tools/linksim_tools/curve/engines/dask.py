@@ -21,7 +21,7 @@ ANSWER, ALONE = 20, 30
 class Dask(Engine):
     """The engine of the scheduler at an address, all of whose workers see the files."""
 
-    least = 2.0
+    longest = 2.0
 
     def __init__(self, address: str) -> None:
         need("--engine dask", "distributed")
@@ -75,6 +75,9 @@ class Dask(Engine):
             done = [future for future in waiting if future.done()]
             waiting = [future for future in waiting if not future.done()]
             yield from done
+
+    def waiting(self) -> str:
+        return f"the dask scheduler at {self.address}, with {self.slots()} threads of workers"
 
     def close(self) -> None:
         self.client.close()

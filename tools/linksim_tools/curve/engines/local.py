@@ -27,7 +27,7 @@ class Worker:
     """A process of `point` that reads batches, a line each, and writes their lines."""
 
     def __init__(self, call: Call) -> None:
-        self.error = tempfile.TemporaryFile()
+        self.error, self.word = tempfile.TemporaryFile(), ""
         self.child = subprocess.Popen(
             [*call.here(), "-"], stdin=subprocess.PIPE, stdout=subprocess.PIPE, stderr=self.error, text=True
         )
@@ -35,8 +35,9 @@ class Worker:
     def lines(self, batch: list[Task]) -> typing.Iterator[str]:
         """What is written of a batch."""
         assert self.child.stdin and self.child.stdout
+        self.word = word_of(batch)
         try:
-            self.child.stdin.write(f"{word_of(batch)}\n")
+            self.child.stdin.write(f"{self.word}\n")
             self.child.stdin.flush()
         except BrokenPipeError:
             raise Ended from None
@@ -65,7 +66,7 @@ class Worker:
 class Local(Engine):
     """The engine of this machine."""
 
-    least = 1.0
+    longest = 1.0
 
     def __init__(self, jobs: int | None) -> None:
         self.jobs = jobs or len(os.sched_getaffinity(0))
@@ -146,6 +147,11 @@ class Local(Engine):
                 count -= 1
             else:
                 yield one
+
+    def waiting(self) -> str:
+        with self.lock:
+            busy = [f"process {worker.child.pid}, which makes {worker.word}" for worker in self.busy]
+        return "; ".join(busy[:4]) + (f"; and {len(busy) - 4} more" if busy[4:] else "")
 
     def close(self) -> None:
         self.over.set()

@@ -2,6 +2,7 @@
 
 from __future__ import annotations
 
+import collections
 import os
 import pathlib
 import re
@@ -17,6 +18,9 @@ from linksim_tools.curve.tasks import word_of
 
 if typing.TYPE_CHECKING:
     from linksim_tools.curve.making import Task
+
+# What an element of an array makes: a batch for each of its processors.
+Element = typing.List[typing.List["Task"]]
 
 # How many elements run at a time if --jobs is left out.
 JOBS = 64
@@ -34,13 +38,26 @@ FAILED = {"BOOT_FAIL", "CANCELLED", "DEADLINE", "FAILED", "NODE_FAIL", "OUT_OF_M
 # The most elements of an array if Slurm does not say (MaxArraySize is 1001 by itself).
 LARGEST_ARRAY = 1000
 
+# An element makes the batches of its line side by side, one on each of its processors.
 SCRIPT = """#!/bin/sh
 set -eu
 cd {folder}
-word=$(sed -n "$((SLURM_ARRAY_TASK_ID + 1))p" words)
 part=$SLURM_ARRAY_TASK_ID.part.$(uname -n).$$
-{words} "$word" > "$part"
+made=
+for word in $(sed -n "$((SLURM_ARRAY_TASK_ID + 1))p" words); do
+  {words} "$word" > "$part.${{#made}}" &
+  made="$made$! "
+done
+for child in $made; do wait "$child"; done
+cat "$part".* > "$part"
+rm "$part".*
 mv "$part" "$SLURM_ARRAY_TASK_ID.csv"
+"""
+
+# The run itself, as a job.
+DETACHED = """#!/bin/sh
+cd {folder}
+exec {words}
 """
 
 
@@ -52,7 +69,17 @@ def asked(*words: str, text: str | None = None) -> str:
     return ended.stdout
 
 
-def written(folder: pathlib.Path, batches: list[list[Task]], waiting: set[int]) -> typing.Iterator[tuple[int, str]]:
+def processors_in(options: list[str]) -> int:
+    """How many processors the options of sbatch ask for each element, 1 if they do not say."""
+    found = 1
+    for option, following in zip(options, [*options[1:], ""]):
+        named = re.fullmatch(r"(?:--cpus-per-task|-c)(?:=?(\d+))?", option)
+        if named and (named[1] or following).isdecimal():
+            found = max(1, int(named[1] or following))
+    return found
+
+
+def written(folder: pathlib.Path, elements: list[Element], waiting: set[int]) -> typing.Iterator[tuple[int, str]]:
     """The elements that are waited for whose files are there and whole, by the folder's list. A file system that was asked for a
     name in vain may say for a minute that it is not there."""
     for entry in os.scandir(folder):
@@ -63,14 +90,14 @@ def written(folder: pathlib.Path, batches: list[list[Task]], waiting: set[int]) 
             except OSError:
                 continue  # it is listed, and cannot be opened yet
             count = sum(not line.startswith("#") for line in text.splitlines())
-            if text.endswith("\n") and count == len(batches[int(number)]):
+            if text.endswith("\n") and count == sum(map(len, elements[int(number)])):
                 yield int(number), text
 
 
 class Slurm(Engine):
     """The engine of a cluster with Slurm, all of whose machines see the files and the folder of results."""
 
-    least = 60.0
+    longest = 60.0
     latency = LATENCY
 
     def __init__(self, options: list[str], jobs: int | None, out: pathlib.Path) -> None:
@@ -81,12 +108,13 @@ class Slurm(Engine):
         found = re.search(r"MaxArraySize\s*=\s*(\d+)", asked("scontrol", "show", "config"))
         self.largest = max(1, int(found[1]) - 1) if found else LARGEST_ARRAY
         self.running: str | None = None
+        self.processors = processors_in(options)
 
     def slots(self) -> int:
-        return min(self.jobs, self.largest)
+        return min(self.jobs, self.largest) * self.processors
 
     def most(self) -> int:
-        return self.slots()
+        return self.largest * self.processors
 
     def recovered(self, call: Call) -> typing.Iterator[str]:
         for folder in sorted(self.folder.glob("*")):
@@ -98,7 +126,8 @@ class Slurm(Engine):
             shutil.rmtree(folder, ignore_errors=True)
 
     def lines(self, call: Call, batches: list[list[Task]]) -> typing.Iterator[str]:
-        rest, fault, folders = batches, "", []
+        rest: list[Element] = [batches[at : at + self.processors] for at in range(0, len(batches), self.processors)]
+        fault, folders = "", []
         for _ in range(TRIES):
             folder = self.folder / f"{time.time_ns()}"
             folder.mkdir(parents=True)
@@ -110,7 +139,7 @@ class Slurm(Engine):
                     done.add(number)
             finally:
                 self.cancel()
-            rest = [batch for number, batch in enumerate(rest) if number not in done]
+            rest = [element for number, element in enumerate(rest) if number not in done]
             if not rest:
                 for one in folders:
                     shutil.rmtree(one, ignore_errors=True)
@@ -120,19 +149,19 @@ class Slurm(Engine):
         kept = f"their logs are in {self.folder}, and the same command takes up what is still written there"
         raise Failed(f"{len(rest)} elements of an array were lost {TRIES} times: {fault}; {kept}")
 
-    def elements(self, call: Call, folder: pathlib.Path, batches: list[list[Task]]) -> typing.Iterator[tuple[int, str]]:
+    def elements(self, call: Call, folder: pathlib.Path, elements: list[Element]) -> typing.Iterator[tuple[int, str]]:
         """Sends an array; the numbers of its elements, and what they wrote, as they are made. Those that are lost do not come."""
         with named_in_faults(folder):
-            (folder / "words").write_text("".join(f"{word_of(batch)}\n" for batch in batches))
+            (folder / "words").write_text("".join(f"{' '.join(map(word_of, element))}\n" for element in elements))
         script = SCRIPT.format(folder=shlex.quote(str(folder)), words=shlex.join(call.words()))
-        options = [f"--array=0-{len(batches) - 1}%{self.slots()}", f"--output={folder}/log-%a", "--job-name=curve"]
+        options = [f"--array=0-{len(elements) - 1}%{min(self.jobs, self.largest)}", f"--output={folder}/log-%a", "--job-name=curve"]
         said = asked("sbatch", "--parsable", "--cpus-per-task=1", *options, *self.options, text=script)
         self.running = said.strip().split(";")[0]
         with named_in_faults(folder):
             (folder / "job").write_text(self.running)
-        waiting, pause, over_at = set(range(len(batches))), PAUSES[0], 0.0
+        waiting, pause, over_at = set(range(len(elements))), PAUSES[0], 0.0
         while True:
-            made = dict(written(folder, batches, waiting))
+            made = dict(written(folder, elements, waiting))
             waiting -= set(made)
             yield from sorted(made.items())
             if not over_at and self.is_over():
@@ -141,6 +170,18 @@ class Slurm(Engine):
                 return
             pause = PAUSES[0] if made else min(2 * pause, PAUSES[1])
             time.sleep(min(pause, self.latency / 4) if over_at else pause)
+
+    def detached(self, words: list[str]) -> str:
+        """Sends the run itself, as a job of one processor that sends the arrays; the number of the job."""
+        script = DETACHED.format(folder=shlex.quote(os.getcwd()), words=shlex.join(words))
+        out = self.folder.parent / self.folder.name[1:].replace(".slurm", ".run")
+        options = [*self.options, "--cpus-per-task=1", "--job-name=curve-run", "--open-mode=append", f"--output={out}"]
+        return asked("sbatch", "--parsable", *options, text=script).strip().split(";")[0]
+
+    def waiting(self) -> str:
+        said = self.queue("--array", "--format=%T %r").stdout.splitlines()
+        states = [f"{count} {state}" for state, count in sorted(collections.Counter(said).items())]
+        return f"job {self.running} of Slurm, whose elements are: {', '.join(states) or 'not in its queue'}"
 
     def patience(self, waiting: set[int]) -> float:
         """How long files are looked for after the end of an array, whose elements `waiting` wrote none that is seen."""

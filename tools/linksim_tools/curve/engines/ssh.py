@@ -4,6 +4,7 @@ from __future__ import annotations
 
 import collections
 import concurrent.futures
+import math
 import os
 import re
 import shlex
@@ -15,6 +16,7 @@ import typing
 
 from linksim_tools.common.program import Failed, Wrong
 from linksim_tools.curve.engines import TRIES, Call, Engine, first_fault
+from linksim_tools.curve.results import note
 from linksim_tools.curve.tasks import word_of
 
 if typing.TYPE_CHECKING:
@@ -48,13 +50,15 @@ def ssh_of(host: str) -> list[str]:
 
 
 def login(host: str) -> float | None:
-    """How many seconds a machine takes to run a command, or nothing if it does not. GNU parallel's own question takes a busy
-    machine for a fault of its own."""
+    """How many seconds a machine takes to run a command, or None if it cannot. A machine that says nothing for PATIENCE seconds
+    takes infinitely long. GNU parallel's own question takes a busy machine for a fault of its own."""
     words, begun = ["true"] if host == HERE else [*ssh_of(host), "true"], time.monotonic()
     nothing = subprocess.DEVNULL  # a pipe would be held open by what ssh may leave in the background (ControlPersist)
     try:
         said = subprocess.run(words, stdin=nothing, stdout=nothing, stderr=nothing, timeout=PATIENCE)
-    except (OSError, subprocess.TimeoutExpired):
+    except subprocess.TimeoutExpired:
+        return math.inf
+    except OSError:
         return None
     return None if said.returncode else time.monotonic() - begun
 
@@ -71,7 +75,7 @@ def end_quietly(child: subprocess.Popen[str]) -> None:
 class Ssh(Engine):
     """The engine of machines `8/one,16/two`: how many batches each makes at a time, and its name for ssh."""
 
-    least = 10.0
+    longest = 10.0
 
     def __init__(self, hosts: str) -> None:
         self.hosts = hosts
@@ -84,6 +88,7 @@ class Ssh(Engine):
         if not has_gnu_parallel():
             raise Failed("--engine ssh needs GNU parallel: apt-get install parallel (Debian, Ubuntu)")
         self.child: subprocess.Popen[str] | None = None
+        self.silent: set[str] = set()
 
     def slots(self) -> int:
         return sum(self.counts.values())
@@ -100,12 +105,20 @@ class Ssh(Engine):
             raise Failed(first_fault(said, "GNU parallel failed"))
 
     def answering(self) -> dict[str, float]:
-        """The machines that answer, each with the time that it took: all are asked again if none does."""
+        """The machines that answer, each with the time that it took: all are asked again if none does. One that says nothing at all
+        costs that wait once, and is then left out of the run."""
         times: dict[str, float] = {}
         for _ in range(TRIES):
-            with concurrent.futures.ThreadPoolExecutor(len(self.counts)) as pool:
-                found = zip(self.counts, pool.map(login, self.counts))
-                times = {host: seconds for host, seconds in found if seconds is not None}
+            asked = [host for host in self.counts if host not in self.silent]
+            if not asked:
+                break
+            with concurrent.futures.ThreadPoolExecutor(len(asked)) as pool:
+                found = list(zip(asked, pool.map(login, asked)))
+            silent = [host for host, seconds in found if seconds == math.inf]
+            for host in silent:
+                note(f"{host} did not answer within {PATIENCE} seconds, and is left out")
+            self.silent.update(silent)
+            times = {host: seconds for host, seconds in found if seconds is not None and host not in self.silent}
             if times:
                 break
         return times
@@ -133,6 +146,9 @@ class Ssh(Engine):
                 return error.read().partition("parallel: This job failed:")[0] or "GNU parallel failed"
             finally:
                 end_quietly(self.child)
+
+    def waiting(self) -> str:
+        return f"GNU parallel (process {self.child.pid if self.child else 0}) and the machines of ssh:{self.hosts}"
 
     def close(self) -> None:
         if self.child:
