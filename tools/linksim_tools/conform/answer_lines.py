@@ -7,13 +7,11 @@ import json
 import pathlib
 import typing
 
+from linksim_tools.common import message
 from linksim_tools.common.files import RESULTS
 from linksim_tools.common.program import Failed
 from linksim_tools.conform.files import Object
 
-
-# So much is shown of a line that cannot be read.
-SHOWN = 40
 
 
 class Wrong(Exception):
@@ -26,7 +24,7 @@ class Repeated(Wrong):
 
 def shown(line: bytes) -> str:
     """The beginning of a line, for a message."""
-    return repr(line[:SHOWN].decode(errors="replace").strip())
+    return f"'{message.shown(line.strip())}'"
 
 
 def is_answer(line: bytes) -> bool:
@@ -67,7 +65,7 @@ def pairs_of(words: list[str]) -> list[tuple[str, str]]:
     names = words[::2]
     twice = next((name for place, name in enumerate(names) if name in names[:place]), None)
     if twice is not None:
-        raise Wrong(f"{twice[:40]} stands there twice")
+        raise Wrong(f"{message.shown(twice)} stands there twice")
     return list(zip(names, words[1::2]))
 
 
@@ -89,7 +87,7 @@ def taken_from(
                     if is_answer(line):
                         take(line)
                     elif line.strip():
-                        others.append(line[:SHOWN])
+                        others.append(line[: message.MOST])
                 except Wrong as wrong:
                     troubles.append(f"{path} line {number}: {wrong}")
                 # The rest of a line that is too long is read away, if it ends.

@@ -9,6 +9,9 @@ import typing
 
 FILLER = "-"
 
+# Bits as the library has them, an octet each, to characters.
+OF_LIBRARY = bytes.maketrans(b"\0\1\2", b"01-")
+
 # What puts bits in another order.
 Order = typing.Callable[[str], str]
 
@@ -24,6 +27,11 @@ POLYNOMIALS = {"CRC24A": (24, 0x864CFB), "CRC24B": (24, 0x800063), "CRC16": (16,
 
 class Unreadable(Exception):
     """A list of bits cannot be read; its text says why."""
+
+
+def of_library(bits: bytearray) -> str:
+    """Bits that the library wrote."""
+    return bits.translate(OF_LIBRARY).decode()
 
 
 def of_octets(octets: bytes) -> typing.Any:

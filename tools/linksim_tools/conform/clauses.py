@@ -6,8 +6,7 @@ from __future__ import annotations
 import functools
 import typing
 
-from linksim_tools.common.graphs import FACTORS, GRAPHS, LARGEST
-from linksim_tools.common.rate_matching import STARTS
+from linksim_tools.common.graphs import FACTORS, GRAPHS, LARGEST, STARTS
 from linksim_tools.conform import bits as lists
 from linksim_tools.conform.case import Case, Plan, Row, scheduled
 

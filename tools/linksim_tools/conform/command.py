@@ -10,8 +10,9 @@ import subprocess
 import time
 import typing
 
+from linksim_tools.common.message import MOST
 from linksim_tools.common.program import Failed
-from linksim_tools.conform.answer_lines import SHOWN, shown
+from linksim_tools.conform.answer_lines import shown
 
 CHUNK = 1 << 16
 # After so many lines that are no answers to a question none is waited for.
@@ -100,7 +101,7 @@ class Command:
         while True:
             found = self.line() if found is None else found
             if found is not None and not is_answer(found):
-                self.left_out.append(found[:SHOWN])
+                self.left_out.append(found[:MOST])
                 if len(self.left_out) == most:
                     raise Stopped(f"the command wrote {REMARKS:,} lines that are no answers, the last one {shown(found)}")
                 found = None

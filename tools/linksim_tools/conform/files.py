@@ -8,7 +8,8 @@ import pathlib
 import typing
 
 from linksim_tools.common import files, provenance
-from linksim_tools.common.program import Failed, name_of, output_of
+from linksim_tools.common.message import shown
+from linksim_tools.common.program import Failed, name_of
 from linksim_tools.conform import bits as lists
 from linksim_tools.conform import code
 from linksim_tools.conform.case import Tables
@@ -50,7 +51,7 @@ def json_line(path: str | pathlib.Path, number: int, line: str) -> Object:
     try:
         value = json.loads(line)
     except ValueError as error:
-        raise Failed(f"{path} line {number}: not JSON: {error}") from None
+        raise Failed(f"{path} line {number}: not JSON: {shown(error, 120)}") from None
     except RecursionError:
         raise Failed(f"{path} line {number}: not JSON that can be read: too deep") from None
     if not isinstance(value, dict):
@@ -58,30 +59,29 @@ def json_line(path: str | pathlib.Path, number: int, line: str) -> Object:
     return value
 
 
-def table_of(program: pathlib.Path, path: str | pathlib.Path) -> Tables:
-    """The entries of a shift table file that the program accepts."""
-    output_of(program, ["check", "--table", path])
+def entries_of(path: str | pathlib.Path) -> Tables:
+    """The entries of a shift table file that the library accepts."""
+    # It is loaded here: who reads a suite has no need of the library.
+    from linksim_tools.common.tables import table_at
+    table_at(path)
     try:
         return code.entries_of(files.text_of(path, files.LIMITS["table"]))
     except ValueError as error:
         raise Failed(f"{path} cannot be read: {error}") from None
 
 
-def digest_of_table(program: pathlib.Path, path: str | pathlib.Path) -> str:
+def digest_of_table(path: str | pathlib.Path) -> str:
     """The first digits of the SHA-256 of what `tools/table fingerprint` writes of a table."""
-    # It is loaded here: who reads a suite has no need of it.
     from linksim_tools.table import fingerprint
-    text = "".join(line + "\n" for line in fingerprint.fingerprint(program, path))
+    text = "".join(line + "\n" for line in fingerprint.fingerprint(path))
     return hashlib.sha256(text.encode()).hexdigest()[: fingerprint.DIGITS]
 
 
-def made_by(program: pathlib.Path, path: str | pathlib.Path) -> dict[str, str]:
-    """What makes a suite: the versions of the tools and of the program, and the table's fingerprint."""
-    source = provenance.source_of(program)
-    return {
-        "tools": source.tools, "program": source.program, "program_sha256": source.program_sha256,
-        "fingerprint": digest_of_table(program, path), "specification": source.specification,
-    }
+def made_by(path: str | pathlib.Path, program: pathlib.Path | None = None) -> dict[str, str]:
+    """What makes a suite: the versions and digests of the library, and of the program if that has a part in it, and the table's
+    fingerprint."""
+    words = provenance.source_of(program).words()
+    return {**words, "fingerprint": digest_of_table(path), "specification": words["specification"]}
 
 
 def head_of(path: str | pathlib.Path, numbered: tuple[int, str], kind: str, wanted: typing.AbstractSet[str]) -> Object:
@@ -91,7 +91,8 @@ def head_of(path: str | pathlib.Path, numbered: tuple[int, str], kind: str, want
         return head
     whose, made = KINDS[kind]
     others = [f"; it is a suite{it}" for name, (it, _) in KINDS.items() if name in head and name != kind]
-    raise Failed(f"{path} is no suite{whose}: its first line is not what {name_of('conform')} {made} writes{''.join(others)}")
+    how = f"create one with {name_of('conform')} {made}"
+    raise Failed(f"{path} is not a suite{whose}: its first line is not a suite header ({how}){''.join(others)}")
 
 
 def suite_of(
@@ -106,7 +107,7 @@ def suite_of(
         try:
             cases[str(value["id"])] = case_of(value)
         except (LookupError, TypeError, ValueError, ArithmeticError, AttributeError, lists.Unreadable) as error:
-            raise Failed(f"{path} line {number}: no case of a suite: {error}") from None
+            raise Failed(f"{path} line {number}: no case of a suite: {shown(error, 120)}") from None
     if len(cases) != head["cases"]:
         raise Failed(f"{path} is no whole suite: it has {len(cases)} cases of {head['cases']}")
     return head, tables, cases

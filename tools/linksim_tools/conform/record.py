@@ -12,7 +12,7 @@ from linksim_tools.common import provenance
 
 @dataclasses.dataclass(frozen=True)
 class Record:
-    """What was judged. The program is that which made the suite, and the fingerprint is that of the suite's table."""
+    """What was judged. The version is that of what made the suite, and the fingerprint is that of the suite's table."""
 
     command: str
     date: str
@@ -37,6 +37,8 @@ class Record:
 def record_of(judged: typing.Sequence[str], suite: typing.Any) -> Record:
     """The record of a command's words, or of a file of answers, with a suite."""
     words = " ".join(map(shlex.quote, judged))
-    program, fingerprint = (suite.made.get(name, "unknown") for name in ("program", "fingerprint"))
+    # Suites of earlier versions were made by the program.
+    program = suite.made.get("library") or suite.made.get("program", "unknown")
+    fingerprint = suite.made.get("fingerprint", "unknown")
     date = datetime.datetime.now(datetime.timezone.utc).strftime("%Y-%m-%d %H:%M:%S UTC")
     return Record(words, date, provenance.version_of_tools(), program, fingerprint, suite.path, suite.profile, suite.seed)

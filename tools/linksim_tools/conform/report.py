@@ -4,6 +4,7 @@ from __future__ import annotations
 
 import dataclasses
 import typing
+from xml.sax import saxutils
 
 from linksim_tools.conform.files import Object
 
@@ -56,6 +57,7 @@ class Report:
     troubles: list[str] = dataclasses.field(default_factory=list)
     notes: list[str] = dataclasses.field(default_factory=list)
     record: Record | None = None
+    names: typing.Container[str] = ()
 
     @property
     def fails(self) -> bool:
@@ -65,6 +67,24 @@ class Report:
     def status(self) -> int:
         """The status: 1 if something differs or could not be judged, or if nothing was judged."""
         return 1 if self.fails or self.troubles or not self.answered else 0
+
+    def junit(self) -> typing.Iterator[str]:
+        """The lines of JUnit's XML: a test for each case, which fails in some steps, or is skipped if it was not answered."""
+        failing: dict[str, list[str]] = {}
+        for step in self.steps.values():
+            for name in step.failing:
+                failing.setdefault(name, []).append(step.name)
+        skipped = [name for name in self.suite.cases if name not in self.names]
+        yield '<?xml version="1.0" encoding="UTF-8"?>'
+        yield (f'<testsuite name="TS 38.212 {self.suite.profile}" tests="{len(self.suite.cases)}" failures="{len(failing)}" '
+               f'errors="{len(self.troubles)}" skipped="{len(skipped)}">')
+        for name in self.suite.cases:
+            inside = "<skipped/>" if name in skipped else ""
+            if name in failing:
+                inside = f"<failure message={saxutils.quoteattr('fails in ' + ', '.join(failing[name]))}/>"
+            yield f"<testcase name={saxutils.quoteattr(name)}>{inside}</testcase>"
+        yield from (f"<system-err>{saxutils.escape(line)}</system-err>" for line in self.troubles)
+        yield "</testsuite>"
 
     def as_object(self) -> Object:
         """What JSON has of every report."""

@@ -5,6 +5,7 @@ from __future__ import annotations
 import pathlib
 import typing
 
+from linksim_tools.common.message import shown
 from linksim_tools.conform import bits as lists
 from linksim_tools.conform.answer_lines import Repeated, Wrong, object_of, pairs_of, taken_from
 from linksim_tools.conform.case import PLAN, Answer
@@ -81,7 +82,7 @@ def from_blocks(blocks: list[Object]) -> Object:
     known = {"r", *LISTS, "k0", "Ncb", "E"}
     names = {name for it in blocks for name in it}
     if not names <= known:
-        raise Wrong(f"codeblocks has a name that is none: {min(names - known)}")
+        raise Wrong(f"codeblocks has a name that is none: {shown(min(names - known))}")
     if [it.get("r", r) for r, it in enumerate(blocks)] != list(range(len(blocks))):
         raise Wrong("codeblocks is not in the order r = 0, 1, ..")
     lacking = sorted(name for name in names - {"r"} for it in blocks if name not in it)
@@ -100,7 +101,7 @@ def from_object(value: Object) -> Answer:
     """The values of an answer that was JSON."""
     strange = value.keys() - set(NAMES) - set(PASSED_OVER)
     if strange:
-        raise Wrong(f"a name that is none: {min(strange)[:40]}")
+        raise Wrong(f"a name that is none: {shown(min(strange))}")
     named = {name: it for name, it in value.items() if name in READ}
     if "codeblocks" in value:
         named.update(from_blocks(value["codeblocks"]))
@@ -114,7 +115,7 @@ def digits_of(name: str, text: str) -> list[int]:
     """The whole number of a plain word, or those of all code blocks if the name has several."""
     numbers = text.split(",") if name == "E" else [text]
     if not all(it.isdecimal() and it.isascii() and len(it) < 16 for it in numbers):
-        raise Wrong(f"{name} is no whole number: {text[:40]}")
+        raise Wrong(f"{name} is no whole number: {shown(text)}")
     return list(map(int, numbers))
 
 
@@ -144,7 +145,7 @@ def answer_of(
     if name in there:
         raise Repeated(f"case {name} was answered before")
     if name not in suite.cases:
-        raise Wrong(f"the suite has no case {name[:40]}")
+        raise Wrong(f"the suite has no case {shown(name)}")
     if wanted is not None and name != wanted:
         raise Wrong(f"an answer to case {name} where {wanted} was asked")
     try:

@@ -5,9 +5,10 @@ from __future__ import annotations
 import argparse
 import typing
 
-from linksim_tools.common.program import add_program, program_at
+from linksim_tools.common.command_line import add_out, hint
+from linksim_tools.common.message import shown
 from linksim_tools.conform import record as recording
-from linksim_tools.conform.commands import Words, command_of, reported, written
+from linksim_tools.conform.commands import Words, chosen, command_of, reported, written
 from linksim_tools.conform.encoder import alike, design, plain, points
 from linksim_tools.conform.encoder import again as asking
 from linksim_tools.conform.encoder import answers as answering
@@ -26,22 +27,17 @@ if typing.TYPE_CHECKING:
 
 EXAMPLES = """
 examples:
-  tools/conform suite --table table.csv > suite.jsonl
+  tools/conform suite --table table.csv --out suite.jsonl
   tools/conform run suite.jsonl -- python3 my_encoder.py
   tools/conform check suite.jsonl answers.jsonl
 
-A status of 0 says that all that was answered agrees; 1 that something differs, that an answer
-cannot be judged, or that none was judged; 2 that the words or the files cannot be read.
+Exit status: 0 if all answers agree, 1 if any differs or could not be judged, or a file could not be
+read, 2 for a usage error.
 """
 ABOUT = (
     "Conformance of an encoder with TS 38.212: a suite of cases, and a check that names the mistake; "
     "`receiver` before COMMAND does the same for a receiver."
 )
-
-
-def suite_lines(program: str | None, *words: typing.Any) -> typing.Iterator[str]:
-    """The lines of a suite."""
-    return suites.written(program_at(program), *words)
 
 
 def point_lines() -> typing.Iterator[str]:
@@ -63,7 +59,11 @@ def mistake_lines(path: str) -> typing.Iterator[str]:
 def export(given: argparse.Namespace) -> None:
     """Writes a suite as memory files by code block."""
     bus = beats.Bus(given.width, given.first)
-    suite_files.write(suites.read(given.suite), given.dir, bus, given.form)
+    if given.dir is not None:
+        hint(given.parser.prog, "--out DIR")
+    elif given.out is None:
+        given.parser.error("--out is required")
+    suite_files.write(suites.read(given.suite), given.dir or given.out, bus, given.form)
 
 
 def judged(
@@ -84,7 +84,10 @@ def judged(
 def check(given: argparse.Namespace) -> int:
     """Judges a file of answers."""
     suite = suites.read(given.suite)
-    return judged(given, suite, *answering.read(given.answers, suite, given.plain), [given.answers])
+    answers, troubles, notes = answering.read(given.answers, suite, given.plain)
+    suite = chosen(suite, given.only)
+    answers = {name: it for name, it in answers.items() if name in suite.cases}
+    return judged(given, suite, answers, troubles, notes, [given.answers])
 
 
 def form_of(given: argparse.Namespace) -> running.Form:
@@ -94,14 +97,16 @@ def form_of(given: argparse.Namespace) -> running.Form:
 
 def run(given: argparse.Namespace) -> int:
     """Runs an encoder and judges what it answers."""
-    form, suite = form_of(given), suites.read(given.suite)
+    form, suite = form_of(given), chosen(suites.read(given.suite), given.only)
     return judged(given, suite, *running.answers(form, suite), given.command)
 
 
 def add_export(words: Words) -> None:
     """Adds `export`."""
-    command = words.add("export", export, "writes a suite as memory files by code block, for testbenches")
-    command.add_argument("dir", metavar="DIR", help="the folder, which is new or empty")
+    about = "writes a suite as memory files by code block, for testbenches"
+    command = words.add("export", export, about, "--form axis --width 64 --out memories", out=False)
+    command.add_argument("dir", nargs="?", help=argparse.SUPPRESS)
+    add_out(command, "the folder to write, new or empty", None)
     forms = "data, beats of an AXI4-Stream, or files of DPDK's test-bbdev (mem)"
     command.add_argument("--form", choices=beats.FORMS, default="mem", help=forms)
     command.add_argument("--width", type=int, default=32, metavar="N", help="the bits of a beat, 1 to 512 (32)")
@@ -110,11 +115,17 @@ def add_export(words: Words) -> None:
 
 def add_suite(words: Words) -> None:
     """Adds `suite`."""
-    names = "program", "table", "profile", "seed", "pack", "cases"
-    command, which = words.add_suite(written(suite_lines, *names))
+    command, which = words.add_suite(written(suites.written, "table", "profile", "seed", "pack", "cases"))
     which.add_argument("--cases", metavar="FILE", help="your own cases, as lines of plain words")
     command.add_argument("--pack", choices=PACKINGS, default="hex", help="how lists of bits are written (hex)")
-    add_program(command)
+
+
+def names_of(text: str) -> list[str]:
+    """Names of an answer with commas between."""
+    odd = [name for name in text.split(",") if name not in FIELDS]
+    if odd:
+        raise argparse.ArgumentTypeError(f"{shown(odd[0])} is not one of {', '.join(FIELDS)}")
+    return text.split(",")
 
 
 def add_judges(words: Words) -> None:
@@ -124,8 +135,8 @@ def add_judges(words: Words) -> None:
     two.add_argument("--pack", choices=PACKINGS, default="hex", help="how the block is written (hex)")
     for command in (one, two):
         command.add_argument(
-            "--require", choices=FIELDS, action="append", default=[], metavar="NAME",
-            help="status 1 if a case lacks this name of an answer, as sent (may be given several times)",
+            "--require", type=names_of, action="extend", default=[], metavar="NAME,..",
+            help="status 1 if a case lacks one of these names of an answer, as sent",
         )
 
 
@@ -134,14 +145,15 @@ def options(with_kinds: bool) -> argparse.ArgumentParser:
     words = Words(ABOUT, EXAMPLES)
     add_suite(words)
     add_judges(words)
-    words.add("plain", written(plain_lines, "suite"), "writes the cases of a suite as lines of plain words")
-    shows = words.add("show", written(showing.lines, "suite", "id"), "writes one case of a suite as tools/vectors writes it")
+    words.add("plain", written(plain_lines, "suite"), "writes the cases of a suite as lines of plain words", "--out cases.txt")
+    said = "writes one case of a suite as a set of vectors holds it"
+    shows = words.add("show", written(showing.lines, "suite", "id"), said, "kb-560")
     shows.add_argument("id", metavar="ID", help="the id of the case")
     words.add("mistakes", written(mistake_lines, "suite"), "writes the known mistakes, each with the number of cases that show it")
     add_export(words)
     words.add("points", written(point_lines), "writes the points of the clauses, each with the number of cases that cover it",
               suite=False)
     if with_kinds:
-        words.commands.add_parser("encoder", help="before one of these words: of an encoder, as without it")
-        words.commands.add_parser("receiver", help="before one of these words: the same of a receiver")
+        words.whole.commands.add_parser("encoder", help="before one of these words: of an encoder, as without it")
+        words.whole.commands.add_parser("receiver", help="before one of these words: the same of a receiver")
     return words.parser

@@ -80,10 +80,10 @@ class Designer:
             "fillers": facts.systematic + facts.z,
             "end": facts.to_end,
             "round": facts.one_round,
-            "twice": 2 * facts.one_round + facts.z,
+            "twice": 2 * facts.one_round + facts.z, "rounds": 4 * facts.one_round + facts.z,
         }[extent]
         unit = facts.case.qm * facts.case.nl
-        up = extent in ("fillers", "twice")
+        up = extent in ("fillers", "twice", "rounds")
         return max((wanted + (unit - 1) * up) // unit, 1) * unit * len(facts.scheduled)
 
 
@@ -126,6 +126,7 @@ def crc_and_graph_cases(design: Designer) -> None:
         design.add(f"limit-{a}-{rate}", a, rate, g=2 * a)
     design.add("limit-8-511", 8, 511)
     design.add("limit-3832-511", 3832, 511, "short")
+    design.add("limit-3832-300", 3832, 300, "short")
 
 
 def segmentation_cases(design: Designer) -> None:
@@ -154,6 +155,11 @@ def second_sides(design: Designer) -> None:
     # Numbers of more than 14 and of more than 16 bits.
     design.add("large-numbers", 8424, 2048, g=70_000, rv=3)
     design.add("large-block", 65_600, 2048, "short", qm=4)
+    # More than three rounds of the buffer, and counters of more than eight code blocks.
+    for graph, a, rate in ((1, 296, 2048), (2, 24, 2048)):
+        design.add(f"rounds-{graph}", a, rate, "rounds", rv=graph, qm=2 * graph, limit=(None, None, 60)[graph])
+    for name, mask, over in (("all", "all", 7), ("mask", "0-3 5-9", 4)):
+        design.add(f"ten-{name}", 10 * 3816 - 24, 512, "short", mask=mask, qm=2, nl=3, over=over, rv=2)
 
 
 def patterns(design: Designer) -> None:
@@ -230,7 +236,7 @@ def long_cases(design: Designer) -> None:
 
 
 def quick(design: Designer) -> None:
-    """At most 180 cases."""
+    """At most 190 cases."""
     for part in (
         crc_and_graph_cases, segmentation_cases, second_sides, patterns, buffer_cases, schedule_cases, whole_words, shared_out,
         wide_limits,

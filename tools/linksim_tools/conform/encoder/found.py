@@ -6,7 +6,7 @@ import dataclasses
 import typing
 
 if typing.TYPE_CHECKING:
-    from linksim_tools.conform.encoder.conditions import Condition
+    from linksim_tools.conform.conditions import Condition
     from linksim_tools.conform.encoder.judging import Mistakes
 
 

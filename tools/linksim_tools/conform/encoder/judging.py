@@ -100,12 +100,25 @@ class Trial:
     def gives(self, fields: typing.Iterable[str], wrong: Mistakes) -> bool:
         """Whether these mistakes give all that was answered under these names."""
         try:
-            return all(
+            if all(
                 self.agrees(field, getattr(self.answer, field), self.made(field, wrong))
                 for field in fields if getattr(self.answer, field) is not None
-            )
+            ):
+                return True
+        except Impossible:
+            pass
+        return self.is_open(wrong)
+
+    def is_open(self, wrong: Mistakes) -> bool:
+        """Whether the clauses say nothing: with a wrong base graph the code blocks would not have one length. Such a case speaks
+        against no mistake."""
+        if self.right.plan.c == 1 and self.answer.graph is None and all(it.step != "graph" for it in wrong):
+            return False
+        try:
+            plan = self.made("plan", wrong)
         except Impossible:
             return False
+        return bool(plan.graph != self.right.plan.graph and (plan.b + plan.c * plan.l) % plan.c > 0)
 
     def agrees(self, field: str, found: typing.Any, value: typing.Any) -> bool:
         """Whether an answered value is the one that mistakes make. A k0 that is not the right one may be taken modulo Ncb."""
@@ -128,7 +141,7 @@ class Trial:
         try:
             for field in fields:
                 if not same(field, getattr(self.answer, field), self.made(field, base)):
-                    return "fail"
+                    return "unjudged" if step == "segmentation" and self.is_open(base) else "fail"
         except Impossible:
             return "unjudged"
         return "pass"

@@ -2,6 +2,7 @@
 
 from __future__ import annotations
 
+from linksim_tools.common.message import shown
 from linksim_tools.conform import bits as lists
 from linksim_tools.conform.case import Case, scheduled
 
@@ -33,7 +34,7 @@ def number_of(name: str, text: str) -> int:
     """The number of a word."""
     least, most = NUMBERS[name]
     if not (text.isdecimal() and text.isascii() and len(text) < 12 and least <= int(text) <= most):
-        raise ValueError(f"{name} is no number from {least} to {most}: {text[:40]}")
+        raise ValueError(f"{name} is no number from {least} to {most}: {shown(text)}")
     return int(text)
 
 
@@ -42,7 +43,7 @@ def mask_of(text: str) -> str:
     if text == "all":
         return text
     if text.strip("01") or "1" not in text:
-        raise ValueError(f"mask is not `all`, and no digits 0 and 1 with a 1: {text[:40]}")
+        raise ValueError(f"mask is not `all`, and no digits 0 and 1 with a 1: {shown(text)}")
     return " ".join(str(r) for r, digit in enumerate(text) if digit == "1")
 
 
@@ -53,7 +54,7 @@ def case_of(words: list[str]) -> Case:
     found = dict(zip(words[::2], words[1::2]))
     for name in words[::2]:
         if name not in NAMES:
-            raise ValueError(f"a name that is none: {name[:40]}")
+            raise ValueError(f"a name that is none: {shown(name)}")
         if words[::2].count(name) > 1:
             raise ValueError(f"{name} stands there twice")
     lacking = [name for name in ("id", "rate2048", "g", "a") if name not in found]

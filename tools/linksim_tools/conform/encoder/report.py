@@ -10,9 +10,10 @@ from linksim_tools.conform import report as shared
 from linksim_tools.conform.case import about, size
 from linksim_tools.conform.encoder import diagnosis as diagnosing
 from linksim_tools.conform.encoder import words
-from linksim_tools.conform.encoder.conditions import Common
+from linksim_tools.conform.conditions import Common
 from linksim_tools.conform.encoder.difference import Difference, Spot
 from linksim_tools.conform.encoder.judging import Trials
+from linksim_tools.conform.encoder.points import Facts
 from linksim_tools.conform.files import Object
 from linksim_tools.conform.report import counted
 from linksim_tools.conform.steps import STEPS
@@ -105,7 +106,7 @@ def lacking_of(trials: Trials, answers: dict[str, Answer]) -> list[str]:
     lacking = [name for name in answers if name not in trials.by_name]
     if not lacking or not trials.by_name:
         return []
-    condition = Common(trials.suite.cases[name] for name in answers).condition(lacking, list(trials.by_name))
+    condition = Common({name: [Facts(trials.suite.cases[name])] for name in answers}).condition(lacking, list(trials.by_name))
     if condition:
         return [f"not answered: exactly where {condition.words} ({counted(len(lacking), 'case')})"]
     return [f"not answered: {shared.listed(lacking)}"]
@@ -132,7 +133,7 @@ def judged(
     trials = Trials(suite, answers)
     steps = steps_of(suite, trials.states)
     said = [*notes, *notes_of(trials, steps), *lacking_of(trials, answers)]
-    made = Report(suite, len(trials.by_name), steps, list(troubles), said)
+    made = Report(suite, len(trials.by_name), steps, list(troubles), said, names=trials.by_name)
     made.firsts = [first_of(trials, step, it.failing) for step, it in steps.items() if it.failing]
     return made, trials
 

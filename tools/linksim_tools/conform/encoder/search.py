@@ -9,9 +9,10 @@ import typing
 
 from linksim_tools.conform.clauses import Impossible
 from linksim_tools.conform.encoder import entries, places, polynomials, starts
-from linksim_tools.conform.encoder.conditions import Common
+from linksim_tools.conform.conditions import Common
 from linksim_tools.conform.encoder.families import every
 from linksim_tools.conform.encoder.found import Fitting, Found
+from linksim_tools.conform.encoder.points import Facts
 from linksim_tools.conform.encoder.told import lines as telling_lines
 from linksim_tools.conform.encoder.judging import NOTHING, Mistakes, Trial, Trials, length_of
 from linksim_tools.conform.encoder.mistakes import MISTAKES
@@ -45,7 +46,11 @@ class Search:
 
     def __init__(self, suite: Suite, trials: Trials) -> None:
         self.suite, self.trials, self.by_name = suite, trials, trials.by_name
-        self.common = Common(suite.cases[name] for name in self.by_name)
+        places = {name: place for place, name in enumerate(suite.cases)}
+        self.common = Common({name: [Facts(suite.cases[name])] for name in self.by_name}, {
+            name: ["it is the first case"] * (not places[name]) + [
+                f"its place in the suite, from 0 on, is {places[name] % n} modulo {n}" for n in (2, 3, 4, 8, 16)]
+            for name in self.by_name}, places)
         self.work = 0
 
     def left(

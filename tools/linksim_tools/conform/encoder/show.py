@@ -5,6 +5,7 @@ from __future__ import annotations
 import json
 import typing
 
+from linksim_tools.common.message import shown
 from linksim_tools.common.program import Failed
 from linksim_tools.conform.files import Object, head_of, json_line, numbered_lines, vector_lines
 
@@ -17,7 +18,7 @@ def found(path: str, wanted: str) -> Object:
         value = json_line(path, number, line)
         if value.get("id") == wanted:
             return value
-    raise Failed(f"{path} has no case {wanted}")
+    raise Failed(f"{path} has no case {shown(wanted)}")
 
 
 def lines(path: str, wanted: str) -> typing.Iterator[str]:

@@ -4,7 +4,7 @@ from __future__ import annotations
 
 import typing
 
-from linksim_tools.common.rate_matching import STARTS
+from linksim_tools.common.graphs import STARTS
 from linksim_tools.conform.clauses import Clauses
 from linksim_tools.conform.listed import Mistake
 from linksim_tools.conform.steps import STEPS

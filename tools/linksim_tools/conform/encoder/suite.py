@@ -9,7 +9,8 @@ import pathlib
 import sys
 import typing
 
-from linksim_tools.common.program import Failed, Wrong, name_of
+from linksim_tools.common.message import shown
+from linksim_tools.common.program import Failed, name_of
 from linksim_tools.conform import bits as lists
 from linksim_tools.conform import code
 from linksim_tools.conform.case import PLAN, Case, Plan, Tables, Values
@@ -17,8 +18,7 @@ from linksim_tools.conform.chain import Chain
 from linksim_tools.conform.clauses import Impossible, right
 from linksim_tools.conform.code import TablesKey
 from linksim_tools.conform.encoder import design, plain, points
-from linksim_tools.conform.encoder import program as making
-from linksim_tools.conform.files import FORMAT, Object, listed, made_by, numbered_lines, packed, suite_of, table_of
+from linksim_tools.conform.files import FORMAT, Object, entries_of, listed, made_by, numbered_lines, packed, suite_of
 
 
 def given(case: Case, form: str = "hex") -> Object:
@@ -67,47 +67,45 @@ def own_cases(path: str | pathlib.Path, tables: Tables) -> list[Case]:
         try:
             case = plain.case_of(line.split())
             if case.id in found:
-                raise ValueError(f"a case before it is {case.id} too")
+                raise ValueError(f"a case before it is {shown(case.id)} too")
             facts = points.Facts(case)
             if facts.graph not in tables:
                 raise ValueError(f"the table lacks base graph {facts.graph}")
             if facts.b % facts.c:
-                raise ValueError(f"a block of {facts.a} bits cannot be cut; {name_of('vectors')} --near names sizes that can")
+                raise ValueError(f"a block of {facts.a} bits cannot be cut; {name_of('vectors')} near names sizes that can")
         except (ValueError, Impossible) as error:
-            raise Wrong(f"{path} line {number}: {error}") from None
+            raise Failed(f"{path} line {number}: {error}") from None
         found[case.id] = case
     if not found:
-        raise Wrong(f"{path} has no case")
+        raise Failed(f"{path} has no case")
     return list(found.values())
 
 
-def judged(
-    program: pathlib.Path, path: str | pathlib.Path, tables: Tables, cases: list[Case]
-) -> typing.Iterator[tuple[Case, Values]]:
-    """Each case with what the program makes of it, in no order. The chain of the tools is held to the program."""
-    for one in making.made(program, path, cases):
-        values, ours = one.values(), Chain(TablesKey(tables), one.case, right()).values()
+def judged(path: str | pathlib.Path, tables: Tables, cases: list[Case]) -> typing.Iterator[tuple[Case, Values]]:
+    """Each case with what the library makes of it. The chain of the tools is held to the library."""
+    # They are loaded here: who reads a suite has no need of the library.
+    from linksim_tools.common.tables import table_at
+    from linksim_tools.conform.encoder.values import values_of
+
+    table = table_at(path)
+    for case in cases:
+        values, ours = values_of(table, case), Chain(TablesKey(tables), case, right()).values()
         for field in dataclasses.fields(Values):
             if getattr(values, field.name) != getattr(ours, field.name):
-                fault = "this is a fault of the program or of the tool"
-                raise Failed(f"case {one.case.id}: {field.name} is not as the model has it: {fault}")
-        yield one.case, values
+                fault = "this is a fault of the library or of the tool"
+                raise Failed(f"case {case.id}: {field.name} is not as the model has it: {fault}")
+        yield case, values
 
 
-def written(
-    program: pathlib.Path, path: str, profile: str, seed: int, form: str, own: str | None = None
-) -> typing.Iterator[str]:
+def written(path: str, profile: str, seed: int, form: str, own: str | None = None) -> typing.Iterator[str]:
     """The lines of a suite: of a profile, or of the cases of a file of one's own."""
-    tables = table_of(program, path)
+    tables = entries_of(path)
     cases = cases_of(tables, profile, seed) if own is None else own_cases(own, tables)
     head: Object = {"conform": FORMAT, "profile": profile if own is None else "own"}
-    head.update({"seed": seed if own is None else None, "cases": len(cases), "made": made_by(program, path)})
+    head.update({"seed": seed if own is None else None, "cases": len(cases), "made": made_by(path)})
     yield json.dumps({**head, "table": code.records_of(tables)})
-    lines = {}
-    for case, values in judged(program, path, tables, cases):
-        lines[case.id] = line_of(case, values, points.covered(case), form)
-    for case in cases:
-        yield lines.pop(case.id)
+    for case, values in judged(path, tables, cases):
+        yield line_of(case, values, points.covered(case), form)
 
 
 @dataclasses.dataclass(frozen=True, eq=False)

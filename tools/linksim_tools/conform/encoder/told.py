@@ -148,6 +148,62 @@ def of_shifts(step: str, trials: list[Trial], all_trials: Trials) -> list[str]:
     return [f"{words} (in {len(shifts)} of {len(trials)} that fail)"]
 
 
+def of_sequence(step: str, trials: list[Trial]) -> list[str]:
+    """A line if one sequence is added to the right bits in all cases."""
+    added: list[str] = []
+    for trial in trials:
+        for _, answered, right in lists_of(step, trial)[:1]:
+            for one, two in zip(answered, right):
+                if len(one) == len(two) and "-" not in one + two and one != two:
+                    added.append(f"{int(one, 2) ^ int(two, 2):0{len(two)}b}")
+        trial.forget()
+    longest = max(added, key=len, default="")
+    if len(added) < 3 or longest.count("1") < 2 or not all(longest.startswith(it) for it in added):
+        return []
+    return [f"the same sequence is added to the right bits in all {len(added)} lists: it begins {longest[:48]}"]
+
+
+def of_parity(step: str, trials: list[Trial]) -> list[str]:
+    """A line if parity bits of a CRC never change."""
+    parities: dict[int, list[str]] = {}
+    for trial in trials:
+        if step == "crc" and trial.answer.attached:
+            parity = trial.answer.attached[trial.right.plan.a :]
+            parities.setdefault(len(parity), []).append(parity)
+        for bits in trial.answer.bits or [] if step == "codecrc" and trial.right.plan.l else []:
+            parities.setdefault(24, []).append(bits[-24:])
+    found = []
+    for length, listed in parities.items():
+        fixed = {at: listed[0][at] for at in range(length) if len({it[at : at + 1] for it in listed}) == 1}
+        if len(listed) >= 6 and fixed and len(set(map(len, listed))) == 1:
+            said = ", ".join(f"p_{at} = {bit}" for at, bit in [*fixed.items()][:8]) + (", .." if len(fixed) > 8 else "")
+            found.append(f"parity bits of the CRC of {length} bits that never change: {said}")
+    return found
+
+
+def of_counts(step: str, trials: list[Trial]) -> list[str]:
+    """A line if the number of bits that are missing or too many is a number of the case modulo a word."""
+    counts = []
+    for trial in trials:
+        for _, answered, right in lists_of(step, trial)[:1]:
+            by = [len(two) - len(one) for one, two in zip(answered, right)]
+            counts += [(trial.right.plan, trial.case.g, it) for it in by if it]
+        trial.forget()
+    if len(counts) < 3:
+        return []
+    if len({it for *_, it in counts}) == 1:
+        missing = counts[0][2]
+        return [f"{shifted.count(abs(missing))} {'missing' if missing > 0 else 'too many'} in each list that differs"]
+    for width in (8, 16, 32, 64):
+        reads: dict[str, typing.Callable[[typing.Any, int], typing.Any]]
+        reads = {"B": lambda plan, _: plan.b, "K'": lambda plan, _: plan.kdash, "G": lambda _, g: g}
+        for name, read in reads.items():
+            for kind, sign in (("missing", 1), ("too many", -1)):
+                if all(it == sign * (read(plan, g) % width) for plan, g, it in counts):
+                    return [f"mod({name}, {width}) bits are {kind} in each list that differs"]
+    return []
+
+
 def in_words(shifts: list[shifted.Shift], count: int) -> list[str]:
     """What shifts by different numbers of bits have in common: these are whole words."""
     by = [it.missing for it in shifts]
@@ -162,6 +218,9 @@ def lines(step: str, trials: list[Trial], all_trials: Trials) -> list[str]:
     """What is told of the failing cases of a step."""
     told = {"graph": of_graph, "segmentation": of_plan, "buffer": of_k0, "lengths": of_lengths}.get(step)
     try:
-        return told(trials) if told else of_shifts(step, trials, all_trials)
+        if told:
+            return told(trials)
+        moved = of_shifts(step, trials, all_trials)
+        return of_sequence(step, trials) or [*of_parity(step, trials), *moved, *of_counts(step, trials)]
     except Impossible:
         return []

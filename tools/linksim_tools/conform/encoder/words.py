@@ -12,7 +12,6 @@ from linksim_tools.conform.report import what_gives
 from linksim_tools.conform.steps import STEPS
 
 if typing.TYPE_CHECKING:
-    from linksim_tools.conform.encoder.conditions import Condition
     from linksim_tools.conform.encoder.found import Fitting, Found
     from linksim_tools.conform.encoder.report import Report
     from linksim_tools.conform.encoder.suite import Suite
@@ -32,13 +31,6 @@ def alternatives(found: Found) -> str:
     return f"each of these gives all that was answered; answer {found.apart} too, and they are told apart:"
 
 
-def condition_line(condition: Condition, others: str) -> str:
-    """What the failing cases have in common; `others` are those that it is told from."""
-    alike = f" (the same cases: {'; '.join(condition.alike)})" if condition.alike else ""
-    fail = "the one that fails" if condition.failing == 1 else f"all {condition.failing} that fail"
-    return f"exactly where {condition.words}{alike}: {fail}, none of {condition.others} {others}"
-
-
 def title(found: Found) -> str:
     """Which step this is of."""
     behind = f" (with {', '.join(found.behind)} made right)" if found.behind else ""
@@ -51,7 +43,7 @@ def none_lines(suite: Suite, found: Found) -> typing.Iterator[str]:
     if found.cut:
         yield f"  {found.cut}"
     if found.condition:
-        yield f"  {condition_line(found.condition, PASS)}"
+        yield f"  {found.condition.line(PASS)}"
     yield from (f"  {line}" for line in found.told)
     if found.alone:
         yield "  all later steps of these cases are right: look first at what is answered of this step"
@@ -85,7 +77,7 @@ def head_lines(suite: Suite, found: Found) -> typing.Iterator[str]:
 def condition_lines(fitting: Fitting) -> list[str]:
     """When mistakes are made that do not give all cases."""
     if fitting.condition:
-        return [condition_line(fitting.condition, CHANGED)]
+        return [fitting.condition.line(CHANGED)]
     if fitting.broken:
         return [f"but not case {fitting.broken[0]}, which is right: look for a condition under which it is made"]
     return []

@@ -5,11 +5,12 @@ from __future__ import annotations
 import pathlib
 import typing
 
+from linksim_tools.common.message import shown
 from linksim_tools.conform import bits as lists
 from linksim_tools.conform.answer_lines import Repeated, Wrong, object_of, pairs_of, taken_from
 from linksim_tools.conform.files import Object
 from linksim_tools.conform.receiver import steps
-from linksim_tools.conform.receiver.told import Answer
+from linksim_tools.conform.receiver.told import UNSUPPORTED, Answer
 
 if typing.TYPE_CHECKING:
     from linksim_tools.conform.receiver.suite import Suite
@@ -62,10 +63,12 @@ def texts_of(name: str, value: typing.Any, characters: str) -> tuple[str, ...]:
 
 
 def from_object(value: Object) -> Answer:
-    """The answer of an object."""
+    """The answer of an object; without one of the names a case is not supported."""
     strange = value.keys() - set(NAMES) - set(PASSED_OVER)
     if strange:
-        raise Wrong(f"a name that is none: {min(strange)[:40]}")
+        raise Wrong(f"a name that is none: {shown(min(strange))}")
+    if not value.keys() & set(NAMES[2:]):
+        return UNSUPPORTED
     if "delivered" not in value:
         raise Wrong("delivered is not answered")
     return Answer(
@@ -89,7 +92,7 @@ def from_words(words: list[str]) -> Object:
 def place_of(name: str, tx: typing.Any, suite: Suite, there: Answers) -> tuple[str, int]:
     """Which transmission is answered."""
     if name not in suite.cases:
-        raise Wrong(f"the suite has no case {name[:40]}")
+        raise Wrong(f"the suite has no case {shown(name)}")
     if type(tx) is not int:
         raise Wrong(f"no tx that is a whole number, for case {name}")
     count = len(suite.cases[name].case.arrivals)

@@ -269,10 +269,6 @@ class Receiver:
         """The transport block with its CRC, of its code blocks (5.2.2)."""
         return "".join(self.cut(sizes, text) for text in texts)
 
-    def forgotten(self, process: Process, good: bool) -> bool:
-        """Whether the soft values are cleared after a decision."""
-        return False
-
     def answered(self, process: Process, bits: str | None) -> str | None:
         """What is handed up of what was decided now."""
         return bits
@@ -285,8 +281,6 @@ class Receiver:
         a, rest = joined[: sizes.a], joined[sizes.a : sizes.b]
         good = self.good(sizes, passed, process.lengths, self.fits_block(sizes, a, rest, texts))
         process.delivered = self.answered(process, a if good else None)
-        if self.forgotten(process, good):
-            process.soft = None
         soft = process.soft or [empty(sizes.size)] * sizes.c
         return Answer(
             process.delivered,

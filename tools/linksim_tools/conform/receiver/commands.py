@@ -7,9 +7,10 @@ import dataclasses
 import gc
 import typing
 
+from linksim_tools.common.command_line import write
 from linksim_tools.common.program import Failed, add_program, program_at
 from linksim_tools.conform import record as recording
-from linksim_tools.conform.commands import Words, command_of, number_in, reported, written
+from linksim_tools.conform.commands import Words, chosen, command_of, number_in, reported, written
 from linksim_tools.conform.receiver import answers as answering
 from linksim_tools.conform.receiver import report
 from linksim_tools.conform.receiver import suite as suites
@@ -21,12 +22,12 @@ if typing.TYPE_CHECKING:
 
 EXAMPLES = """
 examples:
-  tools/conform receiver suite --table table.csv > receivers.jsonl
+  tools/conform receiver suite --table table.csv --out receivers.jsonl
   tools/conform receiver run receivers.jsonl -- python3 my_receiver.py
   tools/conform receiver check receivers.jsonl answers.jsonl
 
-A status of 0 says that all that was answered agrees, 1 that something differs or that the
-command did not go on, 2 that the words or the files are not such as can be judged.
+Exit status: 0 if all answers agree, 1 if any differs or could not be judged, or a file could not be
+read, 2 for a usage error.
 """
 ABOUT = "Conformance of a receiver with TS 38.212: a suite of cases, and a check that names the mistake."
 
@@ -34,7 +35,8 @@ ABOUT = "Conformance of a receiver with TS 38.212: a suite of cases, and a check
 def manner_of(given: argparse.Namespace) -> run.Manner:
     """How a receiver is asked."""
     from linksim_tools.conform.receiver import run
-    level = Level(given.level, given.bits, given.positive)
+    level = Level(1, given.bits, given.positive)
+    level = dataclasses.replace(level, strong=given.level or min(16, level.largest))
     for strong in (level.strong, *(getattr(given, "levels", None) or ())):
         if strong > level.largest:
             raise Failed(f"--level {strong} is no value of --bits {level.bits}: the largest is {level.largest}")
@@ -51,13 +53,12 @@ def suite_lines(program: str | None, *words: typing.Any) -> list[str]:
 def lines(listed: str, *names: str) -> typing.Callable[[argparse.Namespace], None]:
     """Writes the lines of a suite, as this function of the listing has them."""
 
-    def write(given: argparse.Namespace) -> None:
+    def listing_of(given: argparse.Namespace) -> None:
         from linksim_tools.conform.receiver import listing
         more = [manner_of(given) if name == "manner" else getattr(given, name) for name in names]
-        for line in getattr(listing, listed)(suites.read(given.suite), *more):
-            print(line)
+        write(getattr(listing, listed)(suites.read(given.suite), *more), given.out)
 
-    return write
+    return listing_of
 
 
 def page_of(made: report.Report) -> typing.Iterator[str]:
@@ -81,13 +82,16 @@ def check(given: argparse.Namespace) -> int:
     """Judges a file of answers. What is made for it stays until the end: to look for what does not takes a tenth of the time."""
     gc.disable()
     suite = suites.read(given.suite)
-    return judged(given, suite, *answering.read(given.answers, suite, given.plain), [given.answers])
+    answers, troubles, notes = answering.read(given.answers, suite, given.plain)
+    suite = chosen(suite, given.only)
+    answers = {name: it for name, it in answers.items() if name in suite.cases}
+    return judged(given, suite, answers, troubles, notes, [given.answers])
 
 
 def go(given: argparse.Namespace) -> int:
     """Runs a receiver and judges what it answers."""
     from linksim_tools.conform.receiver import ladder, run
-    command, manner, suite = command_of(given), manner_of(given), suites.read(given.suite)
+    command, manner, suite = command_of(given), manner_of(given), chosen(suites.read(given.suite), given.only)
     levels = sorted(dataclasses.replace(manner.level, strong=it) for it in given.levels or ())
     if not levels:
         return judged(given, suite, *run.answers(command, suite, manner), command)
@@ -109,9 +113,9 @@ def levels_of(text: str) -> list[int]:
 
 def add_level(command: argparse.ArgumentParser) -> None:
     """The options that say what values are."""
-    strong, bits = number_in(1, 1 << 15, int), number_in(4, 16, int)
-    command.add_argument("--level", type=strong, default=16, metavar="N", help="a strong value (16)")
-    command.add_argument("--bits", type=bits, default=8, metavar="N", help="how many bits a value has (8)")
+    strong, bits = number_in(1, 1 << 15, int), number_in(1, 16, int)
+    command.add_argument("--level", type=strong, metavar="N", help="a strong value (16, or the largest of fewer bits)")
+    command.add_argument("--bits", type=bits, default=8, metavar="N", help="how many bits a value has; 1 for hard decisions (8)")
     command.add_argument(
         "--positive", type=int, choices=(0, 1), default=0, help="which bit a positive value means (0)"
     )
@@ -126,8 +130,8 @@ def options() -> argparse.ArgumentParser:
     asks.add_argument("--restart", action="store_true", help="starts the command anew for each case, and writes no `reset`")
     asks.add_argument("--levels", type=levels_of, metavar="N,..",
                       help="runs it at each of these strong values, and tells them together")
-    writes = words.add("plain", lines("plain", "manner"), "writes the cases as lines of plain words")
-    shows = words.add("show", lines("show", "id", "manner"), "writes one case, and what is right of it")
+    writes = words.add("plain", lines("plain", "manner"), "writes the cases as lines of plain words", "--level 8")
+    shows = words.add("show", lines("show", "id", "manner"), "writes one case, and what is right of it", "nothing-24")
     shows.add_argument("id", metavar="ID", help="the id of the case")
     words.add("mistakes", lines("mistakes"), "writes the known mistakes, each with the number of cases that show it")
     words.add("points", lines("points"), "writes what each case is for, and how many mistakes it shows")

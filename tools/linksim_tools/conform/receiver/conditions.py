@@ -2,86 +2,29 @@
 
 from __future__ import annotations
 
-import dataclasses
+import functools
 import itertools
 import typing
 
-from linksim_tools.conform.receiver import judged, peeling, steps
+from linksim_tools.conform.case import Case
+from linksim_tools.conform.conditions import Common, Condition
+from linksim_tools.conform.encoder.points import Facts
+from linksim_tools.conform.receiver import judged, peeling
 from linksim_tools.conform.receiver.chain import Receiver
 from linksim_tools.conform.receiver.level import octets_of
 from linksim_tools.conform.receiver.soft import known_and_ones
 
 if typing.TYPE_CHECKING:
     from linksim_tools.conform.receiver.diagnosis import Diagnosis
-    from linksim_tools.conform.receiver.suite import Kept
+    from linksim_tools.conform.receiver.soft import Soft
+    from linksim_tools.conform.receiver.steps import Tables
+    from linksim_tools.conform.receiver.suite import Kept, Suite
     from linksim_tools.conform.receiver.told import Arrival
 
-# A condition wants so many other blocks that are due and speak against it, and one of two properties so many that fail.
-AGAINST, FAILING = 8, 3
-# So many rows at most are told together.
-MOST_ROWS = 3
-# What few cases may share by chance.
-BY_CHANCE = ("Zc", "the set index")
-# How many alike ones are told.
-TOLD = 4
+# A condition is told from so many other cases, and so many rows at most are told together.
+AGAINST, MOST_ROWS = 8, 3
+LOST = "blocks are lost"
 NEEDED = "is needed"
-
-
-@dataclasses.dataclass(frozen=True)
-class Condition:
-    """What exactly the cases that fail in one way have in common, in words that are alike, and how many fail and do not."""
-
-    said: str
-    words: list[str]
-    failing: int
-    others: int
-
-    def line(self) -> str:
-        alike = f" (the same cases: {'; '.join(self.words[1:TOLD])})" if len(self.words) > 1 else ""
-        fail = f"all {self.failing} that fail" if self.failing > 1 else "the one case that fails"
-        return f"{self.said} exactly where {self.words[0]}: {fail}, none of {self.others} others{alike}"
-
-
-def of_arrival(told: Arrival, sizes: steps.Sizes) -> typing.Iterator[str]:
-    """The properties of a transmission."""
-    scheduled = told.scheduled(sizes.c)
-    ncb = steps.buffer_length(sizes, sizes.n, told.lbrm, max(1, len(scheduled)), steps.RIGHT)
-    yield f"rv = {told.rv}"
-    if told.rv:
-        yield "rv is not 0"
-    yield f"Qm = {told.qm}"
-    if told.qm > 1:
-        yield "Qm > 1"
-    if told.nl > 1:
-        yield f"NL = {told.nl}"
-    if told.rv and steps.start(sizes, ncb, told.rv, steps.RIGHT):
-        yield "k0 is not 0"
-        yield f"k0 of rv {told.rv} is not 0"
-    if ncb < sizes.n:
-        yield "the buffer is limited"
-        if ncb % sizes.z:
-            yield "Ncb is no multiple of Zc"
-    if told.mask is not None:
-        yield "some code blocks are not sent"
-    if told.process > 7:
-        yield "a process is above 7"
-    lengths = {it for it in steps.lengths(sizes, told, steps.RIGHT) if it}
-    if len(lengths) > 1:
-        yield "E_r differ"
-    if max(lengths, default=0) + steps.start(sizes, ncb, told.rv, steps.RIGHT) > ncb:
-        yield "the buffer's end is passed"
-
-
-def of_sizes(sizes: steps.Sizes) -> typing.Iterator[str]:
-    """The properties of a block."""
-    yield f"base graph {sizes.graph}"
-    yield f"the set index is {sizes.set}"
-    yield f"Zc = {sizes.z}"
-    yield "C > 1" if sizes.c > 1 else "C = 1"
-    yield "there are fillers" if len(sizes.filled) else "there are no fillers"
-    yield "A > 3824" if sizes.a > 3824 else "A <= 3824"
-    if sizes.z > 256:
-        yield "Zc > 256"
 
 
 def row_does(does: str, right: peeling.Peeler, number: int, given: list[tuple[int, ...]], columns: int) -> bool:
@@ -95,23 +38,44 @@ def row_does(does: str, right: peeling.Peeler, number: int, given: list[tuple[in
     return any(other.unknown[:columns]) if does == NEEDED else other.ones[:columns] != right.ones[:columns]
 
 
+def peeled_of(receiver: Receiver, told: Arrival) -> typing.Iterator[tuple[Soft, peeling.Peeler, list[tuple[int, ...]]]]:
+    """Of each code block after a transmission that a right receiver has taken its soft values, what all rows find, and what is
+    given."""
+    sizes = receiver.sizes(told, told)
+    for soft in receiver.processes[told.process].soft or []:
+        given = [peeling.columns_of(text, sizes.z) for text in receiver.given(sizes, told, soft)]
+        found = peeling.Peeler(receiver.rows(sizes), len(receiver.rows(sizes).rows), given[0], given[1])
+        found.spread()
+        yield soft, found, given
+
+
+def candidates(found: peeling.Peeler, given: list[tuple[int, ...]]) -> list[int]:
+    """The rows that may decide a bit: one that fixes no bit first does nothing, nor does one whose own column is not known."""
+    return [it for it in found.giving if it < 4 or given[0][found.rows.rows[it][-1][0]]]
+
+
+def deciding(tables: Tables, told: Arrival, values: str) -> set[int]:
+    """The rows that decide a bit of a block that one transmission brings."""
+    receiver = Receiver(tables)
+    receiver.take(told, octets_of(values))
+    sizes, found = receiver.sizes(told, told), set()
+    for _, peeled, given in peeled_of(receiver, told):
+        found |= {it for it in candidates(peeled, given) if row_does("decides a bit", peeled, it, given, sizes.k // sizes.z)}
+    return found
+
+
 def needed(of: Diagnosis, kept: Kept, wanted: typing.Collection[str] | None = None) -> set[str]:
     """Which rows and places the patterns of a case need where a block is due, of these or of all."""
     receiver, found = Receiver(of.suite.tables), set()
     for told, values, right in zip(kept.case.arrivals, kept.case.values, kept.right):
         receiver.take(told, octets_of(values))
         sizes = receiver.sizes(told, told)
-        for it in receiver.processes[told.process].soft or [] if right[0] == judged.MEANT else ():
-            given = [peeling.columns_of(text, sizes.z) for text in receiver.given(sizes, told, it)]
-            all_rows = peeling.Peeler(receiver.rows(sizes), len(receiver.rows(sizes).rows), given[0], given[1])
-            all_rows.spread()
-            # A row that fixes no bit first does nothing, nor does one whose own column is not known.
-            numbers = [it for it in all_rows.giving if it < 4 or given[0][all_rows.rows.rows[it][-1][0]]]
-            for number, does in itertools.product(numbers, (NEEDED, "decides a bit")):
+        for soft, peeled, given in peeled_of(receiver, told) if right[0] == judged.MEANT else ():
+            for number, does in itertools.product(candidates(peeled, given), (NEEDED, "decides a bit")):
                 words = f"row {number} of base graph {sizes.graph} {does}"
                 if words not in found and (wanted is None or words in wanted):
-                    found |= {words} if row_does(does, all_rows, number, given, sizes.k // sizes.z) else set()
-            last = known_and_ones(it)[0].rfind("1") - 2 * sizes.z
+                    found |= {words} if row_does(does, peeled, number, given, sizes.k // sizes.z) else set()
+            last = known_and_ones(soft)[0].rfind("1") - 2 * sizes.z
             found |= {f"a place from {1 << n:,} on is needed" for n in range(7, 16) if last >= 1 << n}
     return found
 
@@ -129,25 +93,52 @@ def of_decision(kept: Kept) -> typing.Iterator[str]:
         yield f"the case is '{kept.case.what}'"
 
 
-def properties(of: Diagnosis, name: str) -> set[str]:
-    """All properties of a case."""
-    kept = of.suite.cases[name]
+def properties(kept: Kept) -> typing.Iterator[str]:
+    """The properties of a case that its transmissions have together, and of what is right of it."""
     arrivals = kept.case.arrivals
-    found = set(of_decision(kept))
-    for told in arrivals:
-        sizes = steps.sizes(told.a, told.rate2048, steps.RIGHT)
-        found |= {*of_sizes(sizes), *of_arrival(told, sizes)}
     rounds = sum(told.fresh for told in arrivals)
-    found |= {"a block is sent again"} if rounds < len(arrivals) else {"each block is sent once"}
+    yield "a block is sent again" if rounds < len(arrivals) else "each block is sent once"
+    if rounds > 1 and len({told.process for told in arrivals}) == 1:
+        yield "new data follows another block"
     if len({told.process for told in arrivals}) > 1:
-        found.add("several processes are busy")
-    elif rounds > 1:
-        found.add("a fresh block follows another one")
-    if kept.case.has("qQiI"):
-        found.add("values are weak")
-    if kept.case.has("hHlLM"):
-        found.add("values are the largest")
+        yield "several processes are busy"
+    if any(told.process > 7 for told in arrivals):
+        yield "a process is above 7"
+    for count in (3, 4):
+        if any(len(it) >= count for it in rounds_of(arrivals)):
+            yield f"a block has {count} transmissions or more"
+    if any(len({it.rv for it in some}) < len(some) for some in rounds_of(arrivals)):
+        yield "an rv is repeated"
+    for characters, words in (("qQiI", "values are weak"), ("hHlLM", "values are the largest")):
+        if kept.case.has(characters):
+            yield words
+    yield from of_decision(kept)
+
+
+def rounds_of(arrivals: typing.Iterable[Arrival]) -> list[list[Arrival]]:
+    """The transmissions of each block."""
+    found: list[list[Arrival]] = []
+    last: dict[int, list[Arrival]] = {}
+    for told in arrivals:
+        if told.fresh or told.process not in last:
+            last[told.process] = []
+            found.append(last[told.process])
+        last[told.process].append(told)
     return found
+
+
+@functools.lru_cache(4096)
+def facts_of(told: Arrival) -> Facts:
+    """The numbers of a transmission."""
+    mask = "all" if told.mask is None else " ".join(map(str, told.mask))
+    return Facts(Case("", "0" * told.a, told.rate2048, told.lbrm, told.rv, told.g, told.qm, told.nl, mask))
+
+
+def common_of(suite: Suite, names: typing.Iterable[str]) -> Common:
+    """What finds what cases have in common; the smallest one that fails is described by itself too."""
+    cases = {name: suite.cases[name] for name in names}
+    return Common({name: [facts_of(it) for it in kept.case.arrivals] for name, kept in cases.items()},
+                  {name: [*properties(kept)] for name, kept in cases.items()})
 
 
 def wrong_of(of: Diagnosis) -> tuple[str, dict[str, bool]]:
@@ -163,7 +154,7 @@ def wrong_of(of: Diagnosis) -> tuple[str, dict[str, bool]]:
             empty[name] = of.fails(name) and any(right == judged.NONE != word for right, word in pairs)
     if any(due.values()) and any(empty.values()):
         return "", {}
-    return ("blocks are lost", due) if any(due.values()) else ("a block is handed up that is not there", empty)
+    return (LOST, due) if any(due.values()) else ("a block is delivered that is not there", empty)
 
 
 def by_needs(of: Diagnosis, failing: list[str], others: list[str]) -> list[str]:
@@ -187,23 +178,18 @@ def by_needs(of: Diagnosis, failing: list[str], others: list[str]) -> list[str]:
     return [] if rest or len(failing) < 2 * len(taken) else [" or ".join(sorted(taken))]
 
 
-def condition(of: Diagnosis) -> Condition | None:
-    """What the cases that fail in one way have in common, and no other case that could; None if there is nothing."""
+def condition(of: Diagnosis) -> tuple[str, Condition] | None:
+    """What the cases that fail in one way have in common, and no other case that could, after what happens there; None if there is
+    nothing."""
     said, cases = wrong_of(of)
     failing, others = ([name for name, wrong in cases.items() if wrong is it] for it in (True, False))
     if not failing or len(others) < AGAINST:
         return None
-    having: dict[str, set[str]] = {}
-    for name in cases:
-        for it in properties(of, name):
-            having.setdefault(it, set()).add(name)
-    lost = set(failing)
-    fitting = [words for words, names in having.items() if names == lost]
-    if len(failing) < FAILING:
-        fitting = [words for words in fitting if not words.startswith(BY_CHANCE)]
-    if not fitting and 1 < len(failing) and said.startswith("blocks"):
-        fitting = by_needs(of, failing, others)
-    if not fitting and len(failing) >= FAILING:
-        wide = sorted(words for words, names in having.items() if lost < names and not words.startswith(BY_CHANCE))
-        fitting = [f"{one} and {other}" for one, other in itertools.combinations(wide, 2) if having[one] & having[other] == lost]
-    return Condition(said, sorted(fitting, key=lambda it: (len(it), it)), len(failing), len(others)) if fitting else None
+    steps = sorted({of.suite.cases[name].case.step for name in failing})
+    found = common_of(of.suite, cases).condition(failing, others, steps)
+    if found and " and " not in found.words:
+        return said, found
+    words = by_needs(of, failing, others) if said == LOST and len(failing) > 1 else []
+    if words:
+        return said, Condition(words[0], tuple(words[1:4]), len(failing), len(others))
+    return (said, found) if found else None

@@ -8,14 +8,14 @@ import sys
 import typing
 
 from linksim_tools.conform.encoder.points import first_sizes
-from linksim_tools.conform.receiver import made, mirrors, peeling, plain, special, steps
+from linksim_tools.conform.receiver import mirrors, peeling, plain, rows, special, steps
 from linksim_tools.conform.receiver.chain import Receiver
 from linksim_tools.conform.receiver.level import octets_of
 from linksim_tools.conform.receiver.made import Maker, sized
 from linksim_tools.conform.receiver.told import Case
 
 # `quick` has so many cases at most.
-MOST = 165
+MOST = 330
 
 # The patterns of `quick`: transmissions, and which columns are wanted.
 QUICK = """
@@ -24,7 +24,9 @@ a8-rv0-limit55 even, a8-rv2-limit61 late, a8-rv3-limit73 extension, a8-long-shor
 a296-rv2-limit61 early, a296-other-qm early, a296-rv1-limit47 parity, a336-other-qm even, a336-rv3-twice second-copy,
 a288-rv0 parity, a296-1372-rv0 parity, a184-rv0 early, a176-rv0 early, a552-rv0 early, a1400-rv0 even, a3824-rv0 parity,
 a3816-rv0 early, a296-rv1 even, a24-qm6 even, a24-rv0-limit55-twice last,
-three-uneven early, two-uneven early, two-limit-twice even, two-of-1-rv0 parity, three-then-12 even,
+three-uneven early, two-uneven early, two-limit-twice even, two-nl3 early, three-nl3 even, three-nl4 early, four-then-013 early,
+four-nl3 even, three-one-over early, a296-rv1 late, a296-rv2 even, a296-rv3 early, a8-rv1 even, a8-rv3 even, a24-rv2 early,
+two-of-1-rv0 parity, three-then-12 even,
 three-limit-then-12 last, three-then-02 extension, two-other-qm even, two-no-filler even, two-rate-511 early
 """
 # How many rounds the rungs of the ladder take.
@@ -47,8 +49,8 @@ def quick(make: Maker) -> typing.Iterator[Case]:
     yield from special.cases(make)
     yield from plain.ladder(make, LADDER)
     yield from patterns(make, QUICK)
-    yield from plain.of_rows(make)
     yield from mirrors.all_of(make)
+    yield from rows.cases(make)
 
 
 def of_sizes(make: Maker) -> typing.Iterator[Case]:
@@ -56,16 +58,6 @@ def of_sizes(make: Maker) -> typing.Iterator[Case]:
     for turn, ((graph, z), (smallest, largest, rate)) in enumerate(first_sizes().items()):
         a, wanted = (largest, smallest)[turn % 2], plain.OTHERWISE[turn % 3]
         yield from plain.plain(make, f"lifting-{graph}-{z}", sized(a, rate, [0], 0.9, qm=(1, 2, 4, 6, 8)[turn % 5]), wanted)
-
-
-def of_many_processes(make: Maker) -> Case:
-    """A case in which all 16 processes are busy."""
-    drafts = [make.draft(f"process {it}", sized(24, 2048, [it % 4, 0], 0.9), made.even) for it in range(16)]
-    values = [it.values() for it in drafts]
-    order = [(turn, it) for turn in range(2) for it in range(16)]
-    arrivals = [dataclasses.replace(drafts[it].arrivals[turn], process=it) for turn, it in order]
-    bits = [drafts[it].bits for _, it in order]
-    return Case("processes-all", "processes", "16 processes in turn", arrivals, [values[it][turn] for turn, it in order], bits)
 
 
 def of_many_code_blocks(make: Maker) -> typing.Iterator[Case]:
@@ -80,7 +72,6 @@ def of_many_code_blocks(make: Maker) -> typing.Iterator[Case]:
 def full(make: Maker) -> typing.Iterator[Case]:
     """The cases of the profile `full`, some of which `quick` has too."""
     yield from quick(make)
-    yield of_many_processes(make)
     for name, arrivals in plain.configurations():
         for wanted in ("early", "late", "even"):
             yield from plain.plain(make, name, arrivals, wanted)

@@ -1,30 +1,23 @@
-"""Which mistake answers as a receiver did. Each known one is judged by what a suite keeps of it, and then pairs of them
-by the model. It also says how many iterations a receiver makes, and what may be its arithmetic alone."""
+"""What a receiver answered to a suite, and what it costs to explain it by a listed mistake, of which the suite keeps the answers.
+It also says how many iterations a receiver makes."""
 
 from __future__ import annotations
 
 import dataclasses
 import typing
 
-from linksim_tools.conform.receiver import conditions, judged, starts, steps, tried
-from linksim_tools.conform.receiver.mistakes import MISTAKES
-from linksim_tools.conform.receiver.pairs import CLASH, SURE, Pairs
+from linksim_tools.conform.receiver import elimination, judged, steps
+from linksim_tools.conform.receiver.pairs import CLASH, SURE
 
 if typing.TYPE_CHECKING:
-    from linksim_tools.conform.listed import Mistake
     from linksim_tools.conform.receiver.answers import Answers
     from linksim_tools.conform.receiver.chain import Receiver
-    from linksim_tools.conform.receiver.conditions import Condition
-    from linksim_tools.conform.receiver.starts import Start
     from linksim_tools.conform.receiver.judged import Shown
-    from linksim_tools.conform.receiver.keeping import Also
     from linksim_tools.conform.receiver.suite import Suite
     from linksim_tools.conform.receiver.told import Answer, Arrival
 
 LEVELS = range(len(judged.LEVELS))
 
-# So many cases at most in which what is decoded contradicts itself may speak against a mistake.
-MOST_CLASHES = 10
 # How far these come differs from decoder to decoder: which code blocks pass and which bits are known is not held to them.
 UNSURE = frozenset(["iterations-2", "iterations-4", "iterations-8"])
 
@@ -42,56 +35,15 @@ def words_of(answer: Answer | None, meant: str, told: Arrival) -> tuple[str | No
     return tuple(word if given else None for word, given in zip(shown, there))
 
 
-def agree(
-    answers: Shown, words: Words, levels: typing.Collection[int], also: Also = ()
-) -> typing.Iterator[bool]:
-    """Whether what was answered at these levels is this, of each transmission. What is accepted `also` is of receivers that keep
-    what has passed, and may leave their soft values as they are then."""
-    return (agrees_once(*it, levels, also[tx] if also else ()) for tx, it in enumerate(zip(answers, words)))
-
-
 def agrees_once(
     wanted: tuple[str, ...], word: tuple[str | None, ...] | None, levels: typing.Collection[int],
     also: typing.Sequence[tuple[str, str]],
 ) -> bool:
-    """The same of one."""
+    """Whether what was answered at these levels to a transmission is this, or is accepted `also`. That is of receivers that keep
+    what has passed, and may leave their soft values as they are then."""
     if word is None or all([word[level] in (None, wanted[level]) for level in levels]):
         return True
     return any(all(word[level] in (None, it[level]) for level in levels if level < 2) for it in also)
-
-
-@dataclasses.dataclass
-class Finding:
-    """What may be the reason: mistakes, singles or pairs of names, and how well they fit.
-
-    `gives`: they give the blocks of all cases, and a wrong block that is handed up, or something else that only they do, shows
-    it. `one`: the same of the one case that fails. `loses`: they lose the same blocks. `not`: they do, but something else that
-    was answered contradicts it. `pairs`: two together. `nearest`: they explain half of the cases that fail. `right`: all
-    blocks are right. `told`: no mistake, but a condition or a constant explains them. `handed`: all wrong blocks come from the
-    right ones in one way. `nothing`: next to nothing is handed up. `long`: only cases fail that are too long for mistakes to be
-    asked. `none`: none of these.
-
-    `against` are the cases whose blocks they do not give, in all of which what is decoded contradicts itself if `clashes`."""
-
-    kind: str
-    names: list[tuple[str, ...]] = dataclasses.field(default_factory=list)
-    against: list[str] = dataclasses.field(default_factory=list)
-    clashes: bool = False
-    apart: str | None = None
-    cut_short: bool = False
-    contradicted: tuple[str, str] | None = None
-    due: int = 0
-    lost: int = 0
-    condition: Condition | None = None
-    start: Start | None = None
-    handed: str | None = None
-    kinds: list[Mistake] = dataclasses.field(default_factory=list)
-    is_of_one: bool = False
-
-    @property
-    def fits(self) -> bool:
-        """Whether the names explain all blocks."""
-        return self.kind in ("gives", "one", "loses")
 
 
 class Diagnosis:
@@ -100,12 +52,42 @@ class Diagnosis:
     def __init__(self, suite: Suite, answers: Answers) -> None:
         self.suite, self.words = suite, {}
         self.costs_of: dict[tuple[str, tuple[int, ...]], dict[str, int]] = {}
+        self.also: dict[str, list[list[tuple[str, str]]]] = {}
+        # The cases in which something is decoded that peeling leaves undecided.
+        self.more: list[str] = []
         for name, found in answers.items():
             kept = suite.cases[name]
             words = [words_of(*it) for it in zip(found, kept.case.meant, kept.case.arrivals)]
             self.words[name] = [it and (*it[:3], None) if settled else it for it, settled in zip(words, kept.settled())]
+            self.also[name] = self.accepted(name, found)
         names = sorted(self.words, key=lambda name: (suite.cases[name].case.size, name))
         self.judged = [name for name in names if suite.cases[name].known and not self.is_doubt(name)]
+
+    def accepted(self, name: str, answers: typing.Sequence[Answer | None]) -> list[list[tuple[str, str]]]:
+        """What is accepted of each transmission beside what peeling finds. It is what receivers that keep something answer, and
+        what more is fixed by elimination. After a delivery nothing but a wrong block is wrong: the buffer may be freed, and a block
+        need be handed up once (TS 38.321, 5.3.2.2)."""
+        kept, words = self.suite.cases[name], self.words[name]
+        found = [list(it) for it in kept.also or [()] * len(words)]
+        more = [False] * len(words)
+        if any(word and self.differs(word, right) for word, right in zip(words, kept.right)) and kept.known:
+            more = elimination.accepted(self.suite.tables, kept.case, answers)
+        delivered: set[int] = set()
+        for told, word, right, also, is_more in zip(kept.case.arrivals, words, kept.right, found, more):
+            if told.fresh:
+                delivered.discard(told.process)
+            if word and (is_more or told.process in delivered and word[0] in (judged.NONE, judged.MEANT)):
+                also.append((word[0] or judged.NONE, word[1] or right[1]))
+            if right[0] == judged.MEANT or is_more and word and word[0] != judged.NONE:
+                delivered.add(told.process)
+        if any(more):
+            self.more.append(name)
+        return found
+
+    @staticmethod
+    def differs(word: tuple[str | None, ...], right: tuple[str, ...]) -> bool:
+        """Whether something is answered that is not what peeling finds, soft values aside."""
+        return any(one not in (None, other) for one, other in zip(word[:3], right))
 
     def is_doubt(self, name: str) -> bool:
         """Whether a case is one that a right receiver may fail."""
@@ -115,10 +97,11 @@ class Diagnosis:
         """The levels at which a case is judged: what contradicts itself is judged by blocks alone."""
         return (0,) if clash else tuple(LEVELS)
 
-    def fits(self, name: str) -> typing.Iterator[bool]:
+    def fits(self, name: str) -> list[bool]:
         """Whether what was answered to each transmission of a case is right."""
         kept = self.suite.cases[name]
-        return agree(kept.right, self.words[name], self.levels(kept.clash), kept.also)
+        each = zip(kept.right, self.words[name], self.also[name])
+        return [agrees_once(right, word, self.levels(kept.clash), also) for right, word, also in each]
 
     def fails(self, name: str) -> bool:
         """Whether something that was answered to a case is not right."""
@@ -126,13 +109,14 @@ class Diagnosis:
 
     def agrees(self, answers: Shown, name: str, levels: typing.Collection[int] = (0,)) -> bool:
         """Whether these answers to a case have the blocks that were answered, or what was answered at other levels."""
-        return all(agree(answers, self.words[name], levels, self.suite.cases[name].also))
+        each = zip(answers, self.words[name], self.also[name])
+        return all(agrees_once(answer, word, levels, also) for answer, word, also in each)
 
     def given_by(self, made: type[Receiver], name: str) -> bool:
         """Whether such a receiver gives what was answered to a case. It is not asked on after another block."""
         receiver, kept, words = made(self.suite.tables), self.suite.cases[name], self.words[name]
         answers = []
-        for answer, meant, word, also in zip(judged.taken(receiver, kept.case), kept.case.meant, words, kept.also):
+        for answer, meant, word, also in zip(judged.taken(receiver, kept.case), kept.case.meant, words, self.also[name]):
             answers.append(answer)
             if not agrees_once((judged.block(answer, meant),), word, (0,), also):
                 return False
@@ -194,68 +178,24 @@ class Diagnosis:
                     return True
         return False
 
-    def due(self) -> tuple[int, int]:
-        """How many blocks are due, and how many of them were not handed up."""
-        pairs = [(right[0], word[0]) for name in self.judged
-                 for right, word in zip(self.suite.cases[name].right, self.words[name]) if word is not None]
-        wanted = [word for right, word in pairs if right == judged.MEANT]
-        return len(wanted), sum(word != judged.MEANT for word in wanted)
+    def due(self) -> list[str | None]:
+        """What is delivered of each block that is due."""
+        return [word[0] for name in self.judged for right, word in zip(self.suite.cases[name].right, self.words[name])
+                if word is not None and right[0] == judged.MEANT]
 
-    def finding(self) -> Finding:
-        """The mistakes that fit best: by the blocks alone, among equals by what else was answered, and then in earnest."""
-        failing = [name for name in self.judged if self.fails(name)]
-        due, lost = self.due()
-        cost, names = self.least(list(MISTAKES), [0])
-        if not self.cost("", [0]):
-            names = [it for it in names if not self.cost(it, LEVELS) and any(it in self.suite.cases[name].wrong for name in failing)]
-            kind = ("gives" if len(failing) > 1 else "one") if names else "right"
-            return Finding(kind, [(name,) for name in names], apart=self.apart(names))
-        found = self.single(names, failing)
-        explained = found.fits or found.kind == "not"
-        if found.kind != "gives" and not (found.fits and not found.against):
-            found.start = starts.start(self, failing)
-            if not found.start and due != lost:
-                found.kinds, found.cut_short = tried.found(self, failing)
-            found.is_of_one = len(failing) == 1
-        if found.kind != "gives" and not found.kinds and 2 * lost > due and not (
-                explained and (10 * lost < 9 * due or self.shows(names[0]))):
-            names_of = found.names if found.fits else []
-            return Finding("nothing", names_of, due=due, lost=lost, condition=conditions.condition(self))
-        if found.kind != "gives":
-            found.condition = None if found.start else conditions.condition(self)
-        if found.kinds or (found.start or found.condition) and found.kind in ("none", "nearest"):
-            return dataclasses.replace(found, kind="told", names=[], against=[])
-        if found.fits or found.start or found.condition or 2 * lost > due:
-            return found
-        pairs, cut_short = Pairs(self).found()
-        found.cut_short |= cut_short
-        return Finding("pairs", pairs, cut_short=found.cut_short) if pairs else found
+    def delivers(self, mirror: str) -> bool:
+        """Whether a mirror is delivered as a receiver with its mistake does."""
+        kept = self.suite.cases[mirror]
+        pairs = zip(kept.answers(kept.case.mirror)[0], kept.right, self.words[mirror])
+        return any(word is not None and word[0] == wrong[0] != right[0] and wrong[0] != judged.NONE for wrong, right, word in pairs)
 
-    def single(self, names: list[str], failing: list[str]) -> Finding:
-        """What these mistakes, which give the blocks of equally many cases, come to."""
-        for level in LEVELS[1:]:
-            if len(names) > 1:
-                _, names = self.least(names, LEVELS[: level + 1])
-        doubtful = [name for name in self.words if self.is_doubt(name)]
-        if len(names) > 1 and doubtful:
-            costs = {name: self.cost(name, [0], doubtful) for name in names}
-            names = [name for name, cost in costs.items() if cost == min(costs.values())]
-        against = self.against(names[0])
-        clashes = all(self.suite.cases[it].answers(names[0])[1] for it in against)
-        found = Finding("none", [], against, clashes)
-        if 2 * len([name for name in failing if name not in against]) < len(failing):
-            return found
-        if not clashes or len(against) > MOST_CLASHES:
-            return dataclasses.replace(found, kind="nearest", names=[(name,) for name in names])
-        contradicted = {name: self.contradiction(name) for name in names}
-        free = [name for name in names if not contradicted[name]]
-        found.names, found.apart = [(name,) for name in free or names], self.apart(free or names)
-        if not free:
-            found.kind, found.contradicted = "not", contradicted[names[0]]
-        else:
-            shown = any(map(self.shows, free))
-            found.kind = "loses" if not shown else "gives" if len(failing) > 1 else "one"
-        return found
+    def tells(self, failing: list[str]) -> bool:
+        """Whether these cases show more than losses: a wrong block, or information bits or soft values that are not right."""
+        for name in failing:
+            for right, word in zip(self.suite.cases[name].right, self.words[name]):
+                if word is not None and (word[0] not in (judged.NONE, right[0]) or word[2] is not None or word[3] is not None):
+                    return True
+        return False
 
     def apart(self, names: list[str]) -> str | None:
         """The first level that was not answered at which some case tells these mistakes apart."""

@@ -34,22 +34,32 @@ def only_not_delivered(of: Diagnosis, failing: list[str]) -> bool:
     return True
 
 
+def strengths(of: Diagnosis) -> list[str]:
+    """The cases with values of several strengths."""
+    return [name for name in of.judged if of.suite.cases[name].case.is_mixed]
+
+
 def of_values(of: Diagnosis, failing: list[str], characters: str) -> bool:
-    """Whether only cases with such values fail, and half of all that have some."""
-    having = [name for name in of.judged if of.suite.cases[name].case.has(characters)]
-    return set(failing) <= set(having) and 2 * len(failing) >= len(having)
+    """Whether the cases with such values alone fail, and all in which a block is due."""
+    having = {name for name in of.judged if of.suite.cases[name].case.has(characters)}
+    due = {name for name in having if of.suite.cases[name].right[-1][0] == judged.MEANT}
+    return due <= set(failing) <= having
 
 
-def of_depth(of: Diagnosis, failing: list[str]) -> bool:
-    """Whether the failing cases take more rounds than all that are delivered."""
-    depths = [of.suite.cases[name].case.rounds for name in failing]
-    lacking = min((it[0] for it in depths if it), default=0)
-    there = [
-        kept.case.rounds[0] for name, kept in of.suite.cases.items()
-        if name in of.words and name not in failing and kept.case.rounds and kept.right[-1][0] == judged.MEANT
-        and not of.is_doubt(name)
-    ]
-    return all(depths) and bool(there) and lacking > 2 and lacking >= max(there)
+def of_depth(of: Diagnosis, failing: list[str]) -> str | None:
+    """How many rounds the failing cases take, if they only lose blocks and take more, flooding or layer by layer, than all that
+    are delivered."""
+    if not failing or not only_not_delivered(of, failing):
+        return None
+    there = [kept.case.rounds for name, kept in of.suite.cases.items() if name in of.words and not of.fails(name)
+             and kept.case.rounds and kept.right[-1][0] == judged.MEANT and not of.is_doubt(name)]
+    lacking = [of.suite.cases[name].case.rounds for name in failing]
+    for way, words in enumerate(("rounds of flooding", "passes over layers")):
+        least = min(it[way] if it else 0 for it in lacking)
+        most = max((it[way] for it in there), default=0)
+        if most and least > max(most, 2 - way):
+            return f"all blocks that take {least} {words} or more are lost, and those of up to {most} are delivered"
+    return None
 
 
 def of_cases(of: Diagnosis) -> list[str]:
@@ -59,14 +69,16 @@ def of_cases(of: Diagnosis) -> list[str]:
 
 
 def of_failing(of: Diagnosis, failing: list[str]) -> str | None:
-    """What the failing cases have in common, if it may be arithmetic alone."""
+    """What the failing cases have in common, if it may be how they were asked, or arithmetic alone."""
+    several = strengths(of)
+    signs = {name for name in several if "combine-signs" in of.suite.cases[name].wrong}
+    if failing and set(failing) <= set(several) and 2 * len(set(failing) & signs) >= len(signs):
+        return ("only cases with values of several strengths fail: if your values have n bits, ask with --bits n and a --level of "
+                "at most 2^(n-1) - 1; --bits 1 asks with hard decisions")
     if not failing or not only_not_delivered(of, failing):
         return None
     if of_values(of, failing, WEAK):
         return "only cases with weak values fail; try a larger --level"
     if of_values(of, failing, STRONG):
         return "only cases with the strongest values fail; keep wider sums, or try --level 4"
-    if of_depth(of, failing):
-        return ("only cases that take many rounds fail: too few iterations, or messages that die out since they are scaled "
-                "and rounded down; round to the nearest, or try a larger --level")
     return None

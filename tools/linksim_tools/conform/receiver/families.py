@@ -11,6 +11,7 @@ import typing
 from linksim_tools.conform.encoder import mistakes as encoders
 from linksim_tools.conform.encoder.families import limits, numbers
 from linksim_tools.conform.encoder.families import rows as of_tables
+from linksim_tools.conform.encoder.families.orders import SYMBOLS
 from linksim_tools.conform.listed import Method, Mistake, replacing
 from linksim_tools.conform.receiver import judged, peeling, steps
 from linksim_tools.conform.receiver.chain import Process, Receiver
@@ -116,16 +117,6 @@ def in_bits(most: int, lost: bool) -> Method:
     return selected
 
 
-# In which order the bits of a symbol may be taken: words, and the rows.
-ORDERS: tuple[tuple[str, typing.Callable[[int], list[int]]], ...] = (
-    ("in reverse", lambda qm: [*range(qm)][::-1]), ("with each pair exchanged", lambda qm: [it ^ 1 for it in range(qm)]),
-    ("with its halves exchanged", lambda qm: [(it + qm // 2) % qm for it in range(qm)]),
-    ("first the even ones, then the odd ones", lambda qm: [*range(0, qm, 2), *range(1, qm, 2)]),
-    ("from both halves in turn", lambda qm: [it // 2 + it % 2 * (qm // 2) for it in range(qm)]),
-    ("with its pairs in reverse", lambda qm: [qm - 2 - it // 2 * 2 + it % 2 for it in range(qm)]),
-)
-
-
 def ordered(order: typing.Callable[[int], list[int]], of: typing.Collection[int]) -> Method:
     """e with the rows of symbols of these Qm in another order."""
     def deinterleaved(_self: Receiver, right: Method, f: bytes, symbol: int) -> typing.Any:
@@ -138,7 +129,7 @@ def ordered(order: typing.Callable[[int], list[int]], of: typing.Collection[int]
 def of_parting() -> typing.Iterator[Mistake]:
     """The bits of symbols in another order, and the lengths of scheduled code blocks at others."""
     which = {"each symbol": (2, 4, 6, 8), "each symbol with Qm > 2": (4, 6, 8), **{f"Qm = {qm}": (qm,) for qm in (2, 4, 6, 8)}}
-    for (words, order), (said, of) in itertools.product(ORDERS, which.items()):
+    for (words, order), (said, of) in itertools.product(SYMBOLS, which.items()):
         if any(order(qm) != [*range(qm)] for qm in of):
             yield kind("parting", "5.4.2.2", f"the bits of {said} are taken in another order: {words}",
                        "row 0 is the first bit of a symbol", deinterleaved=ordered(order, of))
@@ -207,17 +198,8 @@ def left_from(part: typing.Callable[[Sizes], range]) -> Method:
     return combine
 
 
-def once(_self: Receiver, _right: Method, process: Process, bits: str | None) -> str | None:
-    """A block that was handed up, at its first time alone."""
-    found = None if bits == process.sticking else bits
-    process.sticking = bits or process.sticking
-    return found
-
-
 def of_processes() -> typing.Iterator[Mistake]:
     """Processes that share a buffer, what a fresh block clears, and a block that is sent again."""
-    yield kind("processes", "38.321, 5.3.2.2", "a block is handed up once, and nothing if it is sent again",
-               "answer it after each transmission, until a fresh block begins", answered=once)
     for count in range(2, 16):
         for words, taken in ((f"processes share a soft buffer: p and p mod {count}", lambda it, count: it % count),
                              (f"processes share a soft buffer: all from {count} on", min)):

@@ -4,8 +4,12 @@ from __future__ import annotations
 
 import dataclasses
 import functools
+import typing
 
 from linksim_tools.conform.receiver.told import ZERO
+
+if typing.TYPE_CHECKING:
+    from linksim_tools.conform.receiver.told import Case
 
 
 @dataclasses.dataclass(frozen=True, order=True)
@@ -18,20 +22,30 @@ class Level:
 
     @property
     def largest(self) -> int:
-        """The largest value of so many bits."""
-        return (1 << (self.bits - 1)) - 1
+        """The largest value of so many bits. Hard decisions, which have one bit, are 1 and -1, or 0 for an erased one."""
+        return max((1 << (self.bits - 1)) - 1, 1)
+
+    @property
+    def weak(self) -> int:
+        """A weak value: a quarter of a strong one."""
+        return max(1, self.strong // 4)
+
+    def asks(self, case: Case) -> bool:
+        """Whether a case is asked at this level: one with values of several strengths only if two weak ones are less than a strong
+        one."""
+        return not case.is_mixed or self.bits > 1 and 2 * self.weak < self.strong
 
     def numbers(self) -> dict[str, int]:
         """The number of each character: erased, strong, weak (a quarter), high (four of which are over the largest), the
         largest and the lowest, and one."""
-        weak, high = max(1, self.strong // 4), 5 * (self.largest + 1) // 16
+        high = max(5 * (self.largest + 1) // 16, 1)
         found = {"0": 0}
-        for names, value in (("+-", self.strong), ("qQ", weak), ("hH", high), ("lL", self.largest), ("iI", 1)):
+        for names, value in (("+-", self.strong), ("qQ", self.weak), ("hH", high), ("lL", self.largest), ("iI", 1)):
             found[names[0]], found[names[1]] = value, -value
-        found["L"], found["M"] = -self.largest - 1, -self.largest
+        found["L"], found["M"] = -self.largest - (self.bits > 1), -self.largest
         if self.positive:
             found = {name: min(-value, self.largest) for name, value in found.items()}
-            found["l"] = -self.largest - 1
+            found["l"] = -self.largest - (self.bits > 1)
         return found
 
     def listed(self, values: str) -> list[int]:

@@ -4,6 +4,7 @@ from __future__ import annotations
 
 import typing
 
+from linksim_tools.common.message import shown
 from linksim_tools.common.program import Failed
 from linksim_tools.conform import bits as lists
 from linksim_tools.conform.receiver import judged, run
@@ -17,7 +18,7 @@ if typing.TYPE_CHECKING:
 def show(suite: Suite, name: str, manner: run.Manner) -> typing.Iterator[str]:
     """One case: its lines, and after each what is right and what the program proves."""
     if name not in suite.cases:
-        raise Failed(f"{suite.path} has no case {name}")
+        raise Failed(f"{suite.path} has no case {shown(name)}")
     kept = suite.cases[name]
     yield f"# {name}: {kept.case.what}"
     answers = judged.right_answers(suite.tables, kept.case)
@@ -30,7 +31,8 @@ def show(suite: Suite, name: str, manner: run.Manner) -> typing.Iterator[str]:
 def plain(suite: Suite, manner: run.Manner) -> typing.Iterator[str]:
     """The lines of all cases."""
     for kept in suite.cases.values():
-        yield from run.lines_of(kept.case, manner)
+        if manner.level.asks(kept.case):
+            yield from run.lines_of(kept.case, manner)
 
 
 def blocks(answers: typing.Iterable[typing.Sequence[str]]) -> tuple[str, ...]:

@@ -62,14 +62,6 @@ def first_copy(t: int, column: int, copy: int) -> typing.Any:
     return (copy, column)
 
 
-def between(first: int, last: int) -> typing.Callable[[int, int, int], typing.Any]:
-    """Some parity columns, and then the first ones."""
-    def wanted(t: int, column: int, copy: int) -> typing.Any:
-        return (not first <= column <= last, column)
-
-    return wanted
-
-
 TIGHT = (early, extension, parity, even, late)
 
 

@@ -5,7 +5,7 @@ from __future__ import annotations
 
 import typing
 
-from linksim_tools.conform.receiver import made, plain
+from linksim_tools.conform.receiver import elimination, made, plain
 from linksim_tools.conform.receiver.drafts import Draft
 from linksim_tools.conform.receiver.judged import FAULTS
 from linksim_tools.conform.receiver.level import octets_of
@@ -30,6 +30,15 @@ def delivers(make: Maker, wrong: typing.Sequence[str], arrivals: list[Arrival], 
     for told, text in zip(arrivals, values):
         answer = receiver.take(told, octets_of(text)).delivered
     return answer, receiver.clash
+
+
+def is_fixed(make: Maker, draft: Draft, values: list[str]) -> bool:
+    """Whether a right receiver may deliver these values of a draft, by peeling or by elimination."""
+    receiver, told = make.receiver(), draft.arrivals[-1]
+    for told, text in zip(draft.arrivals, values):
+        answer = receiver.take(told, octets_of(text))
+    fixed = elimination.block_of(receiver.sizes(told, told), elimination.solved(receiver, told))
+    return answer.delivered is not None or fixed is not None
 
 
 # The mistakes that have a mirror, by the transmissions that mostly have one.
@@ -98,7 +107,7 @@ def laid_for(make: Maker, name: str, draft: Draft, label: str, tries: int) -> li
         values = found.values()
         if delivers(make, [name], draft.arrivals, values) != (draft.bits, False):
             continue
-        if delivers(make, [], draft.arrivals, values)[0] is None:
+        if not is_fixed(make, draft, values):
             return values
     return None
 

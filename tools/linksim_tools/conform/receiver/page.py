@@ -7,10 +7,8 @@ import typing
 from linksim_tools.conform import page as pages
 from linksim_tools.conform.page import escaped, paragraph
 from linksim_tools.conform.receiver import report as reporting
+from linksim_tools.conform.receiver import verdicts
 from linksim_tools.conform.receiver.mistakes import MISTAKES
-
-if typing.TYPE_CHECKING:
-    from linksim_tools.conform.receiver.diagnosis import Finding
 
 TITLE = "Conformance of a receiver with TS 38.212"
 
@@ -24,18 +22,18 @@ def first(found: reporting.First, failing: list[str]) -> typing.Iterator[str]:
     yield f"<details><summary>{len(failing)} cases fail</summary><p>{escaped(', '.join(failing))}</p></details>"
 
 
-def diagnosis(found: Finding) -> typing.Iterator[str]:
+def diagnosis(found: verdicts.Verdict) -> typing.Iterator[str]:
     """The mistakes that fit."""
     yield "<h2>Diagnosis</h2>"
-    yield from map(paragraph, reporting.head_lines(found))
-    for names in found.names[: reporting.NAMED]:
+    yield from map(paragraph, found.before())
+    for names in found.names[: verdicts.NAMED]:
         yield '<div class="mistake">'
         yield from pages.mistakes(map(MISTAKES.__getitem__, names))
         yield "</div>"
-    more = len(found.names) - reporting.NAMED
+    more = len(found.names) - verdicts.NAMED
     if more > 0:
         yield f"<p>and {more} more</p>"
-    yield from map(paragraph, reporting.next_lines(found))
+    yield from map(paragraph, found.after())
 
 
 def body(made: reporting.Report) -> typing.Iterator[str]:

@@ -24,13 +24,6 @@ LARGE = (
     ("a3824-511", 3824, 511), ("a3832-513", 3832, 513), ("a3832", 3832, 2048), ("a8424", 8424, 2048),
 )
 SEVERAL = (("two", 3832, 512), ("three", 7656, 512), ("two-of-1", 8432, 2048))
-# Sizes of further set indexes, with Qm and the parity columns that are wanted: each of their rows is needed.
-ROWS = (
-    ("a504", 504, 2048, 2, ((4, 19),)), ("a416", 416, 2048, 4, ((15, 30),)), ("a592", 592, 2048, 1, ((24, 35),)),
-    ("a8424", 8424, 2048, 2, ((30, 45),)), ("a848", 848, 1024, 6, ((13, 22), (23, 32), (32, 41))),
-    ("a1176", 1176, 1024, 8, ((16, 25), (28, 37))),
-)
-
 Configuration = typing.Tuple[str, typing.List[Arrival]]
 
 
@@ -62,6 +55,13 @@ def of_several() -> typing.Iterator[Configuration]:
         yield f"{name}-limit", sized(a, rate, [1], 0.9, qm=2, limit=47)
         yield f"{name}-limit-twice", sized(a, rate, [1], 1.95, qm=2, limit=47 if a < 4000 else 60)
     yield "three-uneven", sized(7656, 512, [0], 0.6, qm=2, over=2)
+    yield "three-one-over", sized(7656, 512, [0], 0.6, qm=2, over=1)
+    yield "two-nl3", sized(3832, 512, [0], 0.6, qm=2, nl=3, over=1)
+    yield "three-nl3", sized(7656, 512, [0], 0.6, qm=2, nl=3, over=2)
+    yield "three-nl4", sized(7656, 512, [0], 0.6, qm=2, nl=4, over=1)
+    yield "four-nl3", sized(14600, 512, [0], 0.6, qm=2, nl=3, over=2)
+    then = sized(14600, 512, [0], 0.55, qm=2, nl=2, mask=(0, 1, 3), over=2)
+    yield "four-then-013", sized(14600, 512, [0], 0.6, qm=2) + again(then, fresh=False)
     for mask, nl in (((0, 2), 1), ((1, 2), 2)):
         label = "".join(map(str, mask))
         then = sized(7656, 512, [0], 0.55, qm=2, nl=nl, mask=mask, over=1)
@@ -92,7 +92,6 @@ WANTED: dict[str, drafts.Wanted] = {it.__name__.replace("_", "-"): it for it in 
     made.early, made.parity, made.extension, made.late, made.even, made.first, made.last, made.first_copy,
     made.second_copy,
 )}
-WANTED.update({f"parity-{first}-to-{last}": made.between(first, last) for *_, windows in ROWS for first, last in windows})
 # In which order other columns are tried if those that are wanted do not fix the block.
 OTHERWISE = ("early", "extension", "even", "late", "parity")
 
@@ -101,7 +100,7 @@ def step_of(name: str) -> str:
     """What a case of these transmissions is for."""
     if "qm" in name or "uneven" in name or "then" in name:
         return "parting"
-    return "decoder" if "short" in name or "rows" in name else "combining" if "twice" in name or "retransmitted" in name else "places"
+    return "decoder" if "short" in name else "combining" if "twice" in name or "retransmitted" in name else "places"
 
 
 def about(arrivals: list[Arrival], wanted: str) -> str:
@@ -122,13 +121,6 @@ def plain(make: Maker, name: str, arrivals: list[Arrival], wanted: str) -> typin
         yield make.case(f"{name}-{wanted}", step_of(name), about(arrivals, order), draft)
         return
     make.leave_out(f"{name}-{wanted}", made.codewords(arrivals[0].a, arrivals[0].rate2048).graph)
-
-
-def of_rows(make: Maker) -> typing.Iterator[Case]:
-    """Cases that need some parity rows each, which are all of them together."""
-    for name, a, rate, qm, windows in ROWS:
-        for window in windows:
-            yield from plain(make, f"{name}-rows", sized(a, rate, [0], 1.0, qm=qm), f"parity-{window[0]}-to-{window[1]}")
 
 
 def rung(told: Arrival, values: str, bits: str, need: tuple[int, int]) -> Case:

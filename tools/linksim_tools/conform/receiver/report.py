@@ -9,19 +9,18 @@ from linksim_tools.common.program import name_of
 from linksim_tools.conform import bits as lists
 from linksim_tools.conform import report as shared
 from linksim_tools.conform.files import Object
-from linksim_tools.conform.receiver import doubts, handed, judged, steps
-from linksim_tools.conform.receiver.diagnosis import Diagnosis, Finding, Iterations, iterations
-from linksim_tools.conform.receiver.mistakes import MISTAKES
+from linksim_tools.conform.receiver import conditions, doubts, judged, steps, verdicts
+from linksim_tools.conform.receiver.diagnosis import Diagnosis, Iterations, iterations
 from linksim_tools.conform.receiver.mistakes.listed import STEPS
+from linksim_tools.conform.receiver.seen import Seen
+
+from linksim_tools.conform.receiver.told import UNSUPPORTED
 
 if typing.TYPE_CHECKING:
     from linksim_tools.conform.record import Record
     from linksim_tools.conform.receiver.answers import Answers
     from linksim_tools.conform.receiver.suite import Kept, Suite
     from linksim_tools.conform.receiver.told import Answer, Arrival
-
-# How many mistakes that fit are named.
-NAMED = 4
 
 
 @dataclasses.dataclass(frozen=True)
@@ -42,7 +41,7 @@ class Report(shared.Report):
 
     failing: list[str] = dataclasses.field(default_factory=list)
     first: First | None = None
-    diagnosis: Finding | None = None
+    diagnosis: verdicts.Verdict | None = None
     iterations: Iterations | None = None
     doubts: list[str] = dataclasses.field(default_factory=list)
     levels: list[str] = dataclasses.field(default_factory=list)
@@ -50,7 +49,7 @@ class Report(shared.Report):
     def as_object(self) -> Object:
         return {
             **super().as_object(), "failing": self.failing, "first": dataclasses.asdict(self.first) if self.first else None,
-            "diagnosis": finding_of(self.diagnosis) if self.diagnosis else None,
+            "diagnosis": self.diagnosis.as_object() if self.diagnosis else None,
             "iterations": dataclasses.asdict(self.iterations) if self.iterations else None, "doubts": self.doubts,
             "levels": self.levels,
         }
@@ -60,7 +59,7 @@ def about(told: Arrival) -> str:
     """A transmission in a few words."""
     limit = "" if told.lbrm is None else f", TBS_LBRM = {told.lbrm}"
     mask = "" if told.mask is None else f", code blocks {' '.join(map(str, told.mask))}"
-    begun = "fresh" if told.fresh else "not fresh"
+    begun = "new data" if told.fresh else "not new data"
     sent = f"rv = {told.rv}, G = {told.g}, Qm = {told.qm}, NL = {told.nl}{limit}{mask}"
     return f"process {told.process}, {begun}, A = {told.a}, 2048 R = {told.rate2048}, {sent}"
 
@@ -101,7 +100,7 @@ def numbers_wrong(name: str, found: tuple[str, ...], right: tuple[str, ...], lea
 def differences(kept: Kept, tx: int, answer: Answer, right: Answer) -> typing.Iterator[str]:
     """What of an answer is not right."""
     if answer.delivered != right.delivered:
-        yield f"it hands up {block_words(answer.delivered)}, right is {block_words(right.delivered)}"
+        yield f"it delivers {block_words(answer.delivered)}, right is {block_words(right.delivered)}"
         yield f"the program proves: {kept.proved[tx]}"
     if answer.passed is not None and answer.passed != right.passed and not kept.clash:
         yield f"code blocks that passed: {answer.passed}, right is {right.passed}"
@@ -143,7 +142,7 @@ def info_lines(found: tuple[str, ...], right: tuple[str, ...]) -> typing.Iterato
 def first_of(of: Diagnosis, answers: Answers, name: str) -> First:
     """The first difference of a case."""
     kept = of.suite.cases[name]
-    case, tx = kept.case, [*of.fits(name)].index(False)
+    case, tx = kept.case, of.fits(name).index(False)
     answer, right = answers[name][tx], judged.right_answers(of.suite.tables, case)[tx]
     lines = [] if answer is None else [*differences(kept, tx, answer, right)]
     shows = f"{name_of('conform')} receiver show {of.suite.path} {name}"
@@ -161,45 +160,33 @@ def steps_of(suite: Suite, of: Diagnosis, failing: list[str]) -> dict[str, share
     return found
 
 
-def finding_of(found: Finding) -> Object:
-    """What was found, as JSON has it."""
-    keys = ("name", "step", "clause", "wrong", "change")
-    mistakes = [[{key: getattr(MISTAKES[name], key) for key in keys} for name in names] for names in found.names]
-    kinds = [{key: getattr(it, key) for key in keys[1:]} for it in found.kinds]
-    contradicted = dict(zip(("level", "case"), found.contradicted)) if found.contradicted else None
-    return {"kind": found.kind, "mistakes": mistakes, "of_a_kind": kinds, "cases_not_given": found.against,
-            "these_contradict_themselves": found.clashes, "contradicted_by": contradicted, "due": found.due, "lost": found.lost,
-            "start": dataclasses.asdict(found.start) if found.start else None,
-            "condition": dataclasses.asdict(found.condition) if found.condition else None, "handed_up": found.handed,
-            "told_apart_by": found.apart, "cut_short": found.cut_short}
-
-
-def told_of(of: Diagnosis, answers: Answers, failing: list[str]) -> Finding:
-    """What was found; if all wrong blocks come from the right ones in one way, that."""
-    change = handed.change(of.suite, answers)
-    if change:
-        return Finding("handed", handed=change)
-    return Finding("long") if set(failing).isdisjoint(of.judged) else of.finding()
-
-
 def report(
     suite: Suite, answers: Answers, troubles: typing.Sequence[str] = (), notes: typing.Sequence[str] = (),
     record: Record | None = None,
 ) -> Report:
     """The whole report."""
+    lacking = [name for name, found in answers.items() if UNSUPPORTED in found]
+    answers = {name: found for name, found in answers.items() if name not in set(lacking)}
     of = Diagnosis(suite, answers)
     names = sorted(of.words, key=lambda name: (suite.cases[name].case.size, name))
     failing = [name for name in names if not of.is_doubt(name) and of.fails(name)]
     by_step = steps_of(suite, of, failing)
-    made = Report(suite, len(of.words), by_step, list(troubles), list(notes), record, failing, iterations=iterations(of))
+    made = Report(suite, len(of.words), by_step, list(troubles), list(notes), record, of.words, failing,
+                  iterations=iterations(of))
+    if lacking:
+        found = conditions.common_of(suite, [*answers, *lacking]).condition(lacking, list(answers))
+        said = f"exactly where {found.words} ({shared.counted(len(lacking), 'case')})" if found else shared.listed(lacking)
+        made.notes.append(f"not supported: {said}")
+    if of.more:
+        made.notes.append(f"decodes more than peeling in {shared.counted(len(of.more), 'case')}, where nothing else is consistent "
+                          f"with what was received: {shared.listed(of.more)}")
     if not failing:
         made.doubts = doubts.of_cases(of)
         return made
     made.first = first_of(of, answers, failing[0])
-    found, common = told_of(of, answers, failing), doubts.of_failing(of, failing)
-    if found.fits or found.kinds or not common:
-        made.diagnosis = found
-    if common and (not found.fits or found.names[0][0].startswith("iterations")):
+    made.diagnosis = verdicts.verdict(Seen(of, answers))
+    common = doubts.of_failing(of, failing)
+    if common:
         made.doubts.append(f"doubt (it may be arithmetic, and no mistake of the chain): {common}")
     return made
 
@@ -210,80 +197,6 @@ def first_lines(first: First, failing: list[str]) -> typing.Iterator[str]:
     yield from (f"  {line}" for line in first.difference)
     yield f"  its lines: {first.show}"
     yield f"  cases that fail: {shared.listed(failing)}"
-
-
-def few_lines(found: Finding) -> typing.Iterator[str]:
-    """What is said if next to nothing is handed up."""
-    yield f"diagnosis: it hands up next to nothing: {found.due - found.lost} of {found.due} blocks that are due"
-    yield "  look at one small case first: the sign of its values (--positive), the shift table that it reads, its CRC"
-    if found.names:
-        yield f"  {' and '.join(names[0] for names in found.names[:NAMED])} would lose the same blocks:"
-
-
-def head_lines(found: Finding) -> typing.Iterator[str]:
-    """What is said before the mistakes that fit."""
-    name, against = found.names[0][0] if found.names else "", found.against
-    but = f" but {len(against)}: {shared.listed(against)}" if found.fits and against else ""
-    if found.kind == "nothing":
-        yield from few_lines(found)
-    elif found.kind == "handed":
-        yield f"diagnosis: each block that is handed up wrongly is the right one, but {found.handed}"
-    elif found.kind == "pairs":
-        yield "diagnosis: no known mistake alone gives these answers; two together give them, as one that is not listed may:"
-    elif found.kind == "gives":
-        yield f"diagnosis: {shared.what_gives(found.names)} the blocks of all cases{but}"
-    elif found.kind == "one":
-        yield f"diagnosis: {shared.what_gives(found.names)} what the one case that fails shows, which is little to go by"
-    elif found.kind == "loses":
-        yield f"diagnosis: it loses the same blocks as a receiver with {name} does, in all cases{but}"
-        yield "  nothing else that was answered shows this mistake for sure"
-    elif found.kind == "not" and found.contradicted:
-        yield f"diagnosis: it loses the same blocks as {name}, but is not {name}: `{found.contradicted[0]}` of {found.contradicted[1]}"
-    elif found.kind == "told":
-        yield "diagnosis: none of the known mistakes, but:"
-    elif found.kind == "long":
-        yield "diagnosis: only the longest cases fail, which no mistake is held to: look for a number of too few bits, as r"
-    elif found.kind == "right":
-        yield "diagnosis: all blocks are right, and no known mistake gives what else was answered"
-    else:
-        yield "diagnosis: none of the known mistakes, and no pair of them, gives these answers"
-        if found.names:
-            yield f"  the nearest gives all but {shared.counted(len(against), 'case')}: {shared.listed(against)}"
-    yield from (f"  {it.line()}" for it in (found.start, found.condition) if it)
-    if found.kinds and found.is_of_one:
-        yield "  a single case fails, which is little to go by:"
-    for kind in found.kinds:
-        yield f"  the same is given by a mistake of a kind ({kind.clause}), {STEPS[kind.step]}: {kind.wrong}"
-        yield f"    change: {kind.change}"
-    if but:
-        yield "  there it contradicts itself, and what a decoder makes of that differs from decoder to decoder"
-    if found.cut_short:
-        yield "  the search was cut short: the cases are too long for it"
-    if len(found.names) > 1:
-        said = f"answer {found.apart} too, and they may be told apart" if found.apart else "no case tells them apart"
-        yield f"  {'each of these fits' if found.fits else 'these are equal'}; {said}:"
-
-
-def finding_lines(found: Finding) -> typing.Iterator[str]:
-    """The lines of a diagnosis."""
-    yield from head_lines(found)
-    for names in found.names[:NAMED]:
-        for it in map(MISTAKES.__getitem__, names):
-            yield f"  {it.name} ({it.clause}), {STEPS[it.step]}: {it.wrong}"
-            yield f"    change: {it.change}"
-        if len(names) > 1:
-            yield "    both together"
-    if len(found.names) > NAMED:
-        yield f"  and {len(found.names) - NAMED} more"
-    yield from next_lines(found)
-
-
-def next_lines(found: Finding) -> typing.Iterator[str]:
-    """What to do next."""
-    if found.fits or found.kind == "pairs":
-        yield "  one mistake can hide another: mend it, and run the suite again"
-    elif found.kind in ("none", "nearest", "not", "right"):
-        yield "  next: answer `soft` and `info` too, start the command anew for each case (--restart), or take the profile full"
 
 
 def iteration_lines(found: Iterations | None) -> typing.Iterator[str]:
@@ -305,7 +218,7 @@ def text(made: Report) -> typing.Iterator[str]:
     if made.first:
         yield from first_lines(made.first, made.failing)
     if made.diagnosis:
-        yield from finding_lines(made.diagnosis)
+        yield from made.diagnosis.says()
     yield from iteration_lines(made.iterations)
     yield from made.doubts
     yield from made.levels

@@ -75,7 +75,7 @@ class Run(running.Run[typing.Tuple[str, int]]):
         """Asks all cases, until the command answers no more."""
         with self.going_on():
             for number, kept in enumerate(self.suite.cases.values(), 1):
-                if not self.case(number, kept.case):
+                if self.manner.level.asks(kept.case) and not self.case(number, kept.case):
                     return
 
 
@@ -83,4 +83,6 @@ def answers(command: list[str], suite: Suite, manner: Manner) -> tuple[answering
     """The answers of a command, lines about what could not be judged, and notes."""
     run = Run(command, suite, manner)
     run.go()
-    return run.there, run.troubles, run.notes()
+    left_out = sum(not manner.level.asks(kept.case) for kept in suite.cases.values())
+    said = [f"{left_out} cases with values of several strengths are not asked at this level"] * (left_out > 0)
+    return run.there, run.troubles, [*run.notes(), *said]

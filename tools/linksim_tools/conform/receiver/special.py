@@ -2,6 +2,7 @@
 
 from __future__ import annotations
 
+import dataclasses
 import typing
 
 from linksim_tools.conform.receiver import drafts, made, steps
@@ -50,11 +51,71 @@ def of_values(make: Maker, a: int, all_of_them: bool) -> typing.Iterator[Case]:
     yield case("cancelled-first", "combining", "wrong values, then right ones as strong twice", [wrong, right, right], bits)
     yield case("lowest", "parting", "the largest and the lowest values", [right.translate(LOWEST)], bits)
     yield case("weak-before", "combining", "weak wrong values, then right ones", [weak, right], bits)
-    high = [right.translate(HIGH)] * 4
-    yield case("strong", "combining", "four times the same strong values", [right] * 4, bits)
-    yield case("sums", "combining", "four times the same values, whose sum is over the largest", high, bits)
     yield case("again-nothing", "processes", "a delivered block is sent again, and nothing arrives",
                [right, nothing], bits)
+    one, other = in_parts(right, 2)
+    yield case("strong", "combining", "half of the values four times, then the other half", [one] * 4 + [other], bits)
+    yield case("sums", "combining", "four times the same half of the values, whose sum is over the largest, then the other half",
+               [one.translate(HIGH)] * 4 + [other], bits)
+    mended = merged(one.translate(WRONG), other)
+    yield case("sums-hold", "combining", "half of the values twice, then wrong ones as strong with the other half",
+               [one, one, mended], bits)
+    yield case("fifths", "combining", "a fifth of the values in each of five transmissions", in_parts(right, 5), bits)
+
+
+def in_parts(values: str, count: int) -> list[str]:
+    """The values that arrive in so many transmissions, each of which has the next part of them."""
+    at = [place for place, value in enumerate(values) if value != "0"]
+    cuts = [at[len(at) * it // count] for it in range(1, count)]
+    bounds = [0, *cuts, len(values)]
+    return [values[first:last].rjust(last, "0").ljust(len(values), "0") for first, last in zip(bounds, bounds[1:])]
+
+
+def merged(one: str, other: str) -> str:
+    """The values of two transmissions that have none in common."""
+    return "".join(first if first != "0" else second for first, second in zip(one, other))
+
+
+def of_rounds(make: Maker, a: int) -> typing.Iterator[Case]:
+    """Cases of five transmissions, and of versions that come again."""
+    draft = make.draft(f"rounds {a}", sized(a, 2048, [0, 2, 3, 1, 0], 0.35), in_turn)
+    yield make.case(f"five-{a}", "combining", "five transmissions, each of which is needed", draft)
+    draft = make.draft(f"repeated {a}", sized(a, 2048, [0, 0, 2, 2], 0.6), in_turn)
+    yield make.case(f"rv-repeated-{a}", "combining", "four transmissions, each rv of which comes twice", draft)
+
+
+def in_turn(t: int, column: int, copy: int) -> typing.Any:
+    """Columns of all transmissions in turn, and of a later one rather."""
+    return (copy, (column + t) % 5, -t, column)
+
+
+def of_contents(make: Maker, a: int) -> typing.Iterator[Case]:
+    """Cases of blocks that are no drawn bits."""
+    told, = sized(a, 2048, [0], 0.97)
+    for name, bits in (("ones", "1" * a), ("single", "1".rjust(a, "0")), ("alternating", "10" * (a // 2))):
+        yield make.case(f"{name}-{a}", "decoder", f"a block of {name} bits" if name != "single" else "a block of a single one",
+                        make.draft(f"{name} {a}", [told], made.early, bits))
+
+
+def of_full_buffers(make: Maker, a: int, rate: int) -> typing.Iterator[Case]:
+    """Cases of new data after a block of which every value arrived: nothing of it may be left in any part of the buffer."""
+    told, = sized(a, rate, [0], 1.0)
+    one = make.draft(f"full {a}", [told], None)
+    for name, wanted in (("early", made.early), ("even", made.even), ("late", made.late)):
+        if a < 1000 or wanted == made.early:
+            other = make.draft(f"after full {a} {name}", [told], wanted)
+            what = f"new data after a block that filled the buffer, {name} columns first"
+            yield Case(f"fresh-after-all-{a}-{name}", "processes", what, [told, told], [*one.values(), *other.values("qQ")], [one.bits, other.bits])
+
+
+def of_all_processes(make: Maker) -> typing.Iterator[Case]:
+    """A case in which all 16 processes are busy."""
+    drafts_of = [make.draft(f"process {it}", sized(24, 2048, [it % 4, 0], 0.9), made.even) for it in range(16)]
+    order = [(turn, it) for turn in range(2) for it in range(16)]
+    arrivals = [dataclasses.replace(drafts_of[it].arrivals[turn], process=it) for turn, it in order]
+    values = [it.values() for it in drafts_of]
+    yield Case("processes-all", "processes", "16 processes in turn", arrivals, [values[it][turn] for turn, it in order],
+               [drafts_of[it].bits for _, it in order])
 
 
 def of_fresh(
@@ -200,6 +261,7 @@ def families(make: Maker) -> typing.Iterator[typing.Iterator[Case]]:
         yield of_fresh(make, a, "fresh", 0, "a fresh block, weaker than the one before")
         yield of_fresh(make, a, "fresh-rv2", 2, "a fresh block with rv 2")
         yield of_fresh_nothing(make, a)
+        yield from (of_rounds(make, a), of_contents(make, a), of_full_buffers(make, a, 2048))
     yield of_fresh(make, SMALLEST, "fresh-late", 0, "a fresh block, weaker than the one before, by late columns", made.late)
     yield from (of_processes(make, SMALLEST), of_processes(make, OTHER), of_process_sizes(make))
     yield from (of_part_of_crc(make, a, rate) for a, rate in ((SMALLEST, 2048), (3832, 2048)))
@@ -210,7 +272,7 @@ def families(make: Maker) -> typing.Iterator[typing.Iterator[Case]]:
             yield of_retransmissions(make, tag, a, rate, which)
     yield of_beginning(make, "zeros", "0" * 14 + "1011001110")
     yield of_beginning(make, "ones", "1" * 14 + "0011001110")
-    yield from (of_parts(make), of_doubts(make))
+    yield from (of_parts(make), of_doubts(make), of_full_buffers(make, 3832, 512), of_all_processes(make))
 
 
 def cases(make: Maker) -> typing.Iterator[Case]:

@@ -5,7 +5,7 @@ from __future__ import annotations
 import dataclasses
 import typing
 
-from linksim_tools.common.rate_matching import STARTS
+from linksim_tools.common.graphs import STARTS
 from linksim_tools.conform.receiver import steps
 from linksim_tools.conform.receiver.chain import Receiver
 
@@ -27,8 +27,8 @@ class Start:
 
     def line(self) -> str:
         which = " or ".join(map(str, self.fitting))
-        return (f"k0 of rv {self.version} in base graph {self.graph} (Table 5.4.2.1-2) is made of another number than {self.right}: "
-                f"{which} gives the same blocks")
+        return (f"k0 of rv {self.version} in base graph {self.graph} (Table 5.4.2.1-2) is made of another number than "
+                f"{self.right}: {which} gives the same blocks")
 
 
 def with_start(graph: int, version: int, number: int) -> type[Receiver]:

@@ -47,6 +47,10 @@ class Answer:
     soft: tuple[str, ...] | None = None
 
 
+# What is answered to a case that is not supported.
+UNSUPPORTED = Answer(None, "")
+
+
 @dataclasses.dataclass
 class Case:
     """Transmissions, the characters of the values of each, and the block that each is of. `mirror` is the mistake
@@ -69,3 +73,8 @@ class Case:
     def has(self, characters: str) -> bool:
         """Whether some value is one of these."""
         return any(it in text for text in self.values for it in characters)
+
+    @property
+    def is_mixed(self) -> bool:
+        """Whether its values have several strengths."""
+        return sum(map(self.has, ("+-", "qQ", "hH", "lLM", "iI"))) > 1

@@ -57,7 +57,7 @@ def written(
 ) -> list[str]:
     """The lines of a suite, all of which are there before one is written. It has what receivers with each of the known mistakes
     answer."""
-    entries = files.table_of(program, path)
+    entries = files.entries_of(path)
     tables = steps.Tables(entries)
     cases, left_out = design.designed(tables, profile, seed)
     found = [judged.everyone(tables, known if case.size <= LONG else (), case) for case in cases]
@@ -69,5 +69,5 @@ def written(
     lines = [line_of(it) for it in kept if it is not None]
     head: files.Object = {"receiver": files.FORMAT, "profile": profile, "seed": seed, "cases": len(lines)}
     head.update({"left_out": left_out} if left_out else {})
-    made = {"made": files.made_by(program, path), "table": code.records_of(entries)}
+    made = {"made": files.made_by(path, program), "table": code.records_of(entries)}
     return [json.dumps({**head, **made}), *lines]

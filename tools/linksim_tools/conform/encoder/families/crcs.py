@@ -80,8 +80,26 @@ def all_before() -> dict[str, Method]:
     return {"code_block": code_block}
 
 
+def without_zeros(names: tuple[str, ...]) -> dict[str, Method]:
+    """The remainder of the bits themselves, without the L zeros after them."""
+    def crc(self: Clauses, name: str, bits: str) -> str:
+        degree, _ = self.polynomial(name)
+        if name not in names:
+            return Clauses.crc(self, name, bits)
+        if len(bits) < degree:
+            return bits.rjust(degree, "0")
+        # What is left of the first bits is added to the last ones.
+        rest = int(Clauses.crc(self, name, bits[:-degree]), 2) ^ int(bits[-degree:], 2)
+        return f"{rest:0{degree}b}"
+
+    return {"crc": crc}
+
+
 def mistakes() -> typing.Iterator[Mistake]:
     """All of them."""
+    for step, whose, names in (("crc", "of the transport block", ("CRC16", "CRC24A")), ("codecrc", "of a code block", ("CRC24B",))):
+        yield mistake("crc-range", step, f"the CRC {whose} is the remainder of its bits without L zeros after them",
+                      "divide the bits times D^L", without_zeros(names))
     right = "over all bits before the parity bits, and no others"
     for words, taken in RANGES:
         yield mistake("crc-range", "crc", f"the CRC of the transport block {words}", right, over(("CRC16", "CRC24A"), taken))

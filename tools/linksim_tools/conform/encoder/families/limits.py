@@ -107,6 +107,11 @@ def mistakes(trials: Trials) -> typing.Iterator[Mistake]:
     }
     for rule in RULES:
         yield from rule.moved(trials, numbers)
+    for less in (8, 16, 24, 32):
+        yield mistake("other-limit", "segmentation", f"Kcb is {less} less at both base graphs", "8448 and 3840",
+                      {"largest": lambda _self, it, less=less: KCB[it] - less})
+        yield mistake("other-limit", "segmentation", f"several code blocks already where B > Kcb - {less}", "where B > Kcb",
+                      {"has_several": lambda _self, b, most, less=less: b > most - less})
     for graph, most in KCB.items():
         for other in itertools.chain(range(most - 64, most + 65, 8), (8424, 8192, 6144, 3816, 4096, 3072)):
             if other != most:

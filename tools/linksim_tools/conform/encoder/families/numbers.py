@@ -5,8 +5,7 @@ from __future__ import annotations
 import itertools
 import typing
 
-from linksim_tools.common.graphs import GRAPHS
-from linksim_tools.common.rate_matching import STARTS
+from linksim_tools.common.graphs import GRAPHS, STARTS
 from linksim_tools.conform.clauses import SETS, SIZES, Clauses
 from linksim_tools.conform.encoder.families.made import Method, after, mistake, told
 from linksim_tools.conform.listed import Mistake
@@ -59,10 +58,12 @@ Formula = typing.Tuple[str, typing.Callable[..., typing.Any]]
 # What may be done to any number after it is made.
 AFTER: tuple[Formula, ...] = (
     ("1 too many", lambda it, *_: it + 1), ("1 too few", lambda it, *_: it - 1), ("twice as much", lambda it, *_: 2 * it),
-    ("half as much", lambda it, *_: it // 2), ("8 times as much", lambda it, *_: 8 * it),
+    ("half as much", lambda it, *_: it // 2), ("two thirds of it", lambda it, *_: 2 * it // 3),
+    ("three quarters of it", lambda it, *_: 3 * it // 4), ("half as much again", lambda it, *_: 3 * it // 2),
+    ("8 times as much", lambda it, *_: 8 * it),
     ("an 8th", lambda it, *_: it // 8), ("24 too many", lambda it, *_: it + 24), ("24 too few", lambda it, *_: it - 24),
-    *((f"rounded down to a multiple of {n}", lambda it, *_, n=n: it // n * n) for n in (8, 16, 32, 64)),
-    *((f"rounded up to a multiple of {n}", lambda it, *_, n=n: -(-it // n) * n) for n in (8, 16, 32, 64)),
+    *((f"rounded down to a multiple of {n}", lambda it, *_, n=n: it // n * n) for n in (2, 4, 8, 16, 32, 64)),
+    *((f"rounded up to a multiple of {n}", lambda it, *_, n=n: -(-it // n) * n) for n in (2, 4, 8, 16, 32, 64)),
 )
 
 # What may be done to one of which the plan is known.
@@ -75,7 +76,7 @@ OF_PLAN: tuple[Formula, ...] = (
     ("at most K", lambda it, plan, *_: min(it, plan.k)), ("at most K'", lambda it, plan, *_: min(it, plan.kdash)),
     ("at most N - 2 Zc", lambda it, plan, *_: min(it, plan.n - 2 * plan.z)),
     ("the number of fillers too large", lambda it, plan, *_: it + plan.fillers),
-    ("the number of fillers too small", lambda it, plan, *_: max(it - plan.fillers, 0)),
+    ("the number of fillers too small", lambda it, plan, *_: it - plan.fillers if it else it),
 )
 
 # Nref of TBS_LBRM, C and the number of scheduled code blocks.
@@ -122,47 +123,94 @@ def begun(formula: typing.Callable[..., int]) -> dict[str, Method]:
     return {"start": start}
 
 
-def shared(formula: typing.Callable[..., tuple[int, int, int]]) -> dict[str, Method]:
-    """E_r by another formula, of the settings and C': the shorter length in units, how many are longer, and the unit."""
-    def lengths(self: Clauses, case: typing.Any, c: int, chosen: list[int]) -> list[int]:
-        least, longer, unit = formula(case, len(chosen), c)
-        found = [0] * c
+def unit_of(case: typing.Any) -> int:
+    return int(case.qm * case.nl)
+
+
+# The parts of which lengths are composed, the right one first: the unit, of a case; to how many code blocks G is shared out, of C'
+# and C; how many are longer, of a case, the number of units, C' and C; which ones, of j, r, C' and their number.
+Part = typing.Tuple[str, typing.Callable[..., typing.Any]]
+UNITS: tuple[Part, ...] = (
+    ("", unit_of), ("the unit is NL", lambda it: it.nl), ("the unit is Qm", lambda it: it.qm), ("the unit is 1", lambda _: 1),
+    ("the unit is the larger of NL and Qm", lambda it: max(it.nl, it.qm)), ("the unit is 2 Qm", lambda it: 2 * it.qm),
+    ("the unit is 8", lambda _: 8), ("the unit is 2 NL Qm", lambda it: 2 * unit_of(it)),
+)
+COUNTED: tuple[Part, ...] = (("", lambda n, _: n), ("G is shared out to C", lambda _, c: c),
+                             ("G is shared out to C' + 1", lambda n, _: n + 1))
+LONGER: tuple[Part, ...] = (
+    ("", lambda it, units, n, c: units % n),
+    *((f"mod({name}, {words}) are longer", lambda it, units, n, c, of=of, by=by: of(it) % by(n, c))
+      for name, of in (("G", lambda it: it.g), ("G / Qm", lambda it: it.g // it.qm), ("G / NL", lambda it: it.g // it.nl),
+                       ("G / (NL Qm)", lambda it: it.g // unit_of(it)))
+      for words, by in (("C'", lambda n, _: n), ("C", lambda _, c: c), ("C' - 1", lambda n, _: max(n - 1, 1)),
+                        ("C' + 1", lambda n, _: n + 1))
+      if (name, words) != ("G / (NL Qm)", "C'")),
+    ("one more is longer", lambda it, units, n, c: units % n + 1), ("none is longer", lambda *_: 0),
+    ("one fewer is longer", lambda it, units, n, c: max(units % n - 1, 0)), ("all are longer", lambda it, units, n, c: n),
+    ("C' - mod(G / (NL Qm), C') are longer", lambda it, units, n, c: n - units % n),
+)
+WHICH: tuple[Part, ...] = (
+    ("", lambda j, r, n, longer: j >= n - longer), ("the longer ones come first", lambda j, r, n, longer: j < longer),
+    ("j is the number r", lambda j, r, n, longer: r >= n - longer), ("the longer ones have odd j", lambda j, r, n, longer: j % 2),
+    ("the longer ones have even j", lambda j, r, n, longer: j % 2 == 0),
+    ("the longer ones begin at j = 1", lambda j, r, n, longer: 1 <= j <= longer),
+)
+UPS: tuple[Part, ...] = (("", lambda least, rest: least + 1),
+                         ("the longer length is the ceiling", lambda least, rest: least + (rest > 0)),
+                         ("the longer ones have two units more", lambda least, rest: least + 2))
+
+
+def composed(unit: Part, counted: Part, longer: Part, which: Part, up: Part) -> dict[str, Method]:
+    """E_r of these parts."""
+    def lengths(_self: Clauses, case: typing.Any, c: int, chosen: list[int]) -> list[int]:
+        size, n = unit[1](case), len(chosen)
+        units = case.g // size
+        least, rest = divmod(units, counted[1](n, c))
+        count, found = longer[1](case, units, counted[1](n, c), c), [0] * c
         for j, r in enumerate(chosen):
-            found[r] = (least + (j >= len(chosen) - longer)) * unit
+            found[r] = (up[1](least, rest) if which[1](j, r, n, count) else least) * size
         return found
 
     return {"lengths": lengths}
 
 
-def of_unit(unit: typing.Callable[..., typing.Any], rest: typing.Callable[..., typing.Any] | None = None) -> dict[str, Method]:
-    """E_r by another unit, or another number of longer code blocks."""
-    def formula(case: typing.Any, count: int, c: int) -> tuple[int, int, int]:
-        it = unit(case)
-        least, longer = divmod(case.g // it, count)
-        return least, longer if rest is None else rest(case, count, c), it
+def shares() -> typing.Iterator[tuple[str, dict[str, Method]]]:
+    """E_r with one part or two that are other ones, in words with the methods."""
+    parts: tuple[tuple[Part, ...], ...] = (UNITS, COUNTED, LONGER, WHICH, UPS)
+    for places in (*itertools.combinations(range(len(parts)), 1), *itertools.combinations(range(len(parts)), 2)):
+        for others in itertools.product(*(parts[place][1:] for place in places)):
+            chosen = [it[0] for it in parts]
+            for place, other in zip(places, others):
+                chosen[place] = other
+            yield ", ".join(words for words, _ in others), composed(*chosen)
+    yield "the last code block has all that is left over", {"lengths": rest_last(-1)}
+    yield "the first code block has all that is left over", {"lengths": rest_last(0)}
+    for words, change in (("up", lambda it: -(-it // 8) * 8), ("down", lambda it: it // 8 * 8)):
+        yield f"E_r is rounded {words} to whole octets", after("lengths", lambda found, *_, change=change: [*map(change, found)])
 
-    return shared(formula)
+
+def rest_last(place: int) -> Method:
+    """E_r with all that is left over in one code block."""
+    def lengths(self: Clauses, case: typing.Any, c: int, chosen: list[int]) -> list[int]:
+        unit = self.unit(case)
+        least, rest = divmod(case.g // unit, len(chosen))
+        found = [least * unit if r in chosen else 0 for r in range(c)]
+        found[chosen[place]] += rest * unit
+        return found
+
+    return lengths
 
 
-def unit_of(case: typing.Any) -> int:
-    return int(case.qm * case.nl)
+def taken_as() -> typing.Iterator[Mistake]:
+    """A value of NL or Qm that is taken for another one."""
+    for field, name, values, steps in (
+        ("nl", "NL", (1, 2, 3, 4), ("lengths",)), ("qm", "Qm", (1, 2, 4, 6, 8), ("lengths", "interleaving")),
+        ("rv", "rv", (0, 1, 2, 3), ("buffer",)),
+    ):
+        for one, two in itertools.permutations(values, 2):
+            yield mistake("taken-as", steps, f"{name} = {one} is taken as {two}", "take it as it is given",
+                          told(**{field: lambda it, one=one, two=two: two if it == one else it}))
 
-
-# E_r: words, and the methods.
-SHARES: tuple[tuple[str, dict[str, Method]], ...] = (
-    ("the unit is NL in place of NL Qm", of_unit(lambda it: it.nl)), ("the unit is 1 in place of NL Qm", of_unit(lambda _: 1)),
-    ("the unit is the larger of NL and Qm", of_unit(lambda it: max(it.nl, it.qm))),
-    ("the unit is 2 Qm", of_unit(lambda it: 2 * it.qm)), ("the unit is 8", of_unit(lambda _: 8)),
-    ("mod(G, C') are longer", of_unit(unit_of, lambda it, n, _: it.g % n)),
-    ("mod(G / Qm, C') are longer", of_unit(unit_of, lambda it, n, _: it.g // it.qm % n)),
-    ("mod(G / NL, C') are longer", of_unit(unit_of, lambda it, n, _: it.g // it.nl % n)),
-    ("mod(G / (NL Qm), C) are longer", of_unit(unit_of, lambda it, n, c: it.g // unit_of(it) % c)),
-    ("one code block more is a longer one", of_unit(unit_of, lambda it, n, _: it.g // unit_of(it) % n + 1)),
-    ("all code blocks have the longer length", of_unit(unit_of, lambda it, n, _: n)),
-    ("C' - mod(G / (NL Qm), C') are longer", of_unit(unit_of, lambda it, n, _: n - it.g // unit_of(it) % n)),
-    ("E_r is rounded up to whole octets", after("lengths", lambda found, *_: [-(-it // 8) * 8 for it in found])),
-    ("E_r is rounded down to whole octets", after("lengths", lambda found, *_: [it // 8 * 8 for it in found])),
-)
 
 # C of B, Kcb and L; K' of B, C and L; Zc of the base graph, Kb and K'.
 COUNTS: tuple[Formula, ...] = (
@@ -203,7 +251,7 @@ def formulas() -> typing.Iterator[Mistake]:
     right = "floor(number Ncb / (columns Zc)) Zc"
     for words, formula in BEGINS:
         yield mistake("other-formula", "buffer", f"k0 is {words}", right, begun(formula))
-    for words, methods in SHARES:
+    for words, methods in shares():
         right = "E_r = NL Qm floor(G / (NL Qm C')), of the last mod(G / (NL Qm), C') one unit more"
         yield mistake("other-formula", "lengths", words, right, methods)
 
@@ -251,3 +299,4 @@ def mistakes() -> typing.Iterator[Mistake]:
     yield from formulas()
     yield from changed()
     yield from exchanged()
+    yield from taken_as()

@@ -39,6 +39,25 @@ def orders() -> typing.Iterator[tuple[str, Order]]:
     yield "all bits are inverted", inverted
 
 
+# In which order the bits of a symbol may be: words, and the rows. Receivers have the same.
+SYMBOLS: tuple[tuple[str, typing.Callable[[int], list[int]]], ...] = (
+    ("in reverse", lambda qm: [*range(qm)][::-1]), ("with each pair exchanged", lambda qm: [it ^ 1 for it in range(qm)]),
+    ("with its halves exchanged", lambda qm: [(it + qm // 2) % qm for it in range(qm)]),
+    ("first the even ones, then the odd ones", lambda qm: [*range(0, qm, 2), *range(1, qm, 2)]),
+    ("from both halves in turn", lambda qm: [it // 2 + it % 2 * (qm // 2) for it in range(qm)]),
+    ("with its pairs in reverse", lambda qm: [qm - 2 - it // 2 * 2 + it % 2 for it in range(qm)]),
+)
+
+
+def in_symbols(order: typing.Callable[[int], list[int]]) -> dict[str, Method]:
+    """f whose symbols have their bits in another order."""
+    def interleaved(self: Clauses, e: str, symbol: int) -> str:
+        f, rows = Clauses.interleaved(self, e, symbol), order(symbol) if symbol % 2 == 0 else [*range(symbol)]
+        return "".join("".join(f[at + row] for row in rows) for at in range(0, len(f), symbol))
+
+    return {"interleaved": interleaved}
+
+
 # Orders of code blocks, of their numbers.
 BLOCKS: tuple[tuple[str, typing.Callable[[list[str]], list[str]]], ...] = (
     ("they are in reverse", lambda f: f[::-1]),
@@ -101,13 +120,22 @@ def mistakes() -> typing.Iterator[Mistake]:
     for words, order in orders():
         yield mistake("other-order", "crc", f"input: {words}", "a_0 is the highest bit of the first octet",
                       {"block": lambda _self, a, o=order: o(a)})
-        yield mistake("other-order", ("crc", "codecrc"), f"the input of each CRC: {words}", "a_0 is taken first",
-                      {"crc_input": lambda _self, bits, o=order: o(bits)})
+        kinds: list[tuple[str | tuple[str, ...], str, tuple[str, ...]]] = [
+            ("crc", "the CRC of the transport block", ("CRC16", "CRC24A")), ("codecrc", "the CRC of a code block", ("CRC24B",)),
+            (("crc", "codecrc"), "each CRC", ("CRC16", "CRC24A", "CRC24B")),
+        ]
+        for step, whose, names in kinds:
+            yield mistake("other-order", step, f"the input of {whose}: {words}", "a_0 is taken first", {
+                "crc": lambda self, name, bits, o=order, n=names: Clauses.crc(self, name, o(bits) if name in n else bits)})
+            yield mistake("other-order", step, f"the parity bits of {whose}: {words}", "p_0 is sent first", {
+                "crc": lambda self, name, bits, o=order, n=names: (o if name in n else str)(Clauses.crc(self, name, bits))})
         yield mistake("other-order", "concatenation", f"output: {words}", "f of r = 0 first, its first bit first",
                       {"joined": lambda self, f, o=order: o(Clauses.joined(self, f))})
         yield mistake("other-order", "interleaving", f"f of each code block: {words}", "5.4.2.2", of_parts("interleaved", order))
         yield mistake("other-order", "selection", f"e of each code block: {words}", "5.4.2.1", of_parts("selected", order))
         yield mistake("other-order", "codecrc", f"the bits of each code block: {words}", "5.2.2", of_parts("code_block", order))
+    for words, rows in SYMBOLS[1:]:
+        yield mistake("other-order", "interleaving", f"the bits of each symbol: {words}", "5.4.2.2", in_symbols(rows))
     for words, change in BLOCKS:
         yield mistake("other-block-order", "concatenation", f"of the code blocks that are sent: {words}", "f of r = 0, 1, 2, ..",
                       joined(change))

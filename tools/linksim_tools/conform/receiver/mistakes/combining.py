@@ -54,8 +54,8 @@ mistake("combining", "combine-halves", "5.4.2.1", "sums are halved and rounded d
 mistake("combining", "codeblocks-wiped", "5.4.2.1", "code blocks that are not scheduled lose what they had",
         "leave their soft values as they are",
         kept=lambda _self, _right, had, length: had if length else empty(len(had)))
-mistake("processes", "cleared-always", "38.321, 5.3.2.2", "each transmission clears the soft buffer",
-        "a fresh block alone clears it", clears=lambda *_: True)
+mistake("processes", "cleared-always", "38.321, 5.3.2.2",
+        "each transmission, or each block that fails, clears the soft buffer", "new data alone clears it", clears=lambda *_: True)
 mistake("processes", "cleared-never", "38.321, 5.3.2.2", "a fresh block is added to the one before",
         "clear the soft buffer of its process", clears=lambda *_: False)
 mistake("processes", "cleared-by-rv", "38.321, 5.3.2.2", "rv 0 clears the soft buffer, and nothing else does",
@@ -63,12 +63,6 @@ mistake("processes", "cleared-by-rv", "38.321, 5.3.2.2", "rv 0 clears the soft b
 mistake("processes", "cleared-by-both", "38.321, 5.3.2.2", "a fresh block clears the soft buffer only with rv 0",
         "clear it by the new data indicator, for each rv",
         clears=lambda _self, _right, told, *_: told.fresh and told.rv == 0)
-mistake("processes", "cleared-when-delivered", "38.321, 5.3.2.2",
-        "a delivered block is forgotten, also if it is sent again", "keep it until a fresh one begins",
-        clears=lambda _self, _right, told, process: told.fresh or process.delivered is not None)
-mistake("processes", "cleared-when-failed", "38.321, 5.3.2.2", "a block that fails clears the soft buffer",
-        "keep the soft values: the retransmission is added to them",
-        forgotten=lambda _self, _right, _process, good: not good)
 mistake("processes", "process-one", "38.321, 5.3.2.1", "all processes have one soft buffer",
         "a soft buffer for each of 16 processes", process_of=lambda *_: 0)
 mistake("processes", "process-of-eight", "38.321, 5.3.2.1", "process p has the soft buffer of p mod 8",

@@ -1,4 +1,4 @@
-"""What the cases that fail have in common, and the others have not: one property of a case, or two."""
+"""What the cases that fail have in common, and the others have not: one property of a case, or two. Both ends use it."""
 
 from __future__ import annotations
 
@@ -7,10 +7,8 @@ import itertools
 import re
 import typing
 
-from linksim_tools.conform.encoder.points import Facts
-
 if typing.TYPE_CHECKING:
-    from linksim_tools.conform.case import Case
+    from linksim_tools.conform.encoder.points import Facts
 
 # Cases of a suite: a bit for each.
 Cases = int
@@ -24,7 +22,7 @@ ALIKE, FOR_ONE, FOR_TWO, FOR_LIMIT, AGAINST, EACH = 4, 2, 4, 8, 8, 4
 INFORMATIVE = 48
 
 # Properties that hold or not: words, words of the contrary, and the test.
-Test = typing.Callable[[Facts], bool]
+Test = typing.Callable[["Facts"], bool]
 YES_OR_NO: tuple[tuple[str, str, Test], ...] = (
     ("C > 1", "C = 1", lambda it: it.c > 1),
     ("C > 2", "C <= 2", lambda it: it.c > 2),
@@ -52,6 +50,7 @@ YES_OR_NO: tuple[tuple[str, str, Test], ...] = (
     ("the buffer's end is read", "the buffer's end is not read", lambda it: max(it.shares) >= it.to_end),
     ("it wraps", "it does not wrap", lambda it: max(it.shares) > it.to_end),
     ("it wraps twice", "it does not wrap twice", lambda it: max(it.shares) > it.to_end + it.one_round),
+    ("it wraps three times", "it does not wrap three times", lambda it: max(it.shares) > it.to_end + 2 * it.one_round),
     ("E_r is more than a round", "E_r is at most a round", lambda it: max(it.shares) > it.one_round),
     ("Qm > 1", "Qm = 1", lambda it: it.case.qm > 1),
     ("NL > 1", "NL = 1", lambda it: it.case.nl > 1),
@@ -71,7 +70,7 @@ YES_OR_NO: tuple[tuple[str, str, Test], ...] = (
     ("the block has a single one", "the block has not a single one", lambda it: it.ones == 1),
 )
 
-Number = typing.Callable[[Facts], int]
+Number = typing.Callable[["Facts"], int]
 
 NUMBERS: dict[str, Number] = {
     "base graph": lambda it: it.graph, "set": lambda it: it.plan.set, "rv": lambda it: it.case.rv,
@@ -93,17 +92,20 @@ ORDERED = (
 )
 MULTIPLES = ("A", "B", "K'", "Zc", "G", "Ncb")
 
-# What a step may depend on, first what it most likely does: conditions that cases do not tell apart stand in this order.
-ABOUT: dict[str, str] = {
+# What each step consumes, the most telling first: conditions that cases do not tell apart stand in this order.
+CONSUMED: dict[str, str] = {
     "crc": r"^A\b|^B\b|block", "graph": r"^A\b|^2048 R",
-    "segmentation": r"^B\b|^K'|^C\b|^Kb|^base graph|^A\b|^Zc", "codecrc": r"^C\b|^K'|filler|^A\b|^B\b",
-    "ldpc": r"^base graph|^set|^Zc|filler|^K'|^C\b", "buffer": r"^TBS_LBRM|^C\b|^Ncb|^rv|^base graph|^Zc|sent|^C'",
-    "lengths": r"^G\b|^NL|^Qm|^C'|E_r|^C\b|sent", "selection": r"k0|wrap|E_r|^Ncb|filler|end|^rv|parity",
+    "segmentation": r"^B\b|^C\b|^Kb|^base graph|^K'|^A\b|^Zc", "codecrc": r"^C\b|^K'|filler|^A\b|^B\b",
+    "ldpc": r"^base graph|^set|^Zc|filler|^row|^K'|^C\b", "buffer": r"^TBS_LBRM|^C\b|^Ncb|^rv|^base graph|^Zc|sent|^C'",
+    "lengths": r"^NL|^Qm|^C'|^C\b|E_r|sent|^G\b", "selection": r"k0|wrap|E_r|^Ncb|filler|end|^rv|parity",
     "interleaving": r"^Qm|E_r", "concatenation": r"^C\b|^C'|E_r|^G\b|sent|^r\b",
+    "parting": r"^Qm|^NL|^C'|^C\b|sent|E_r|^G\b", "places": r"^rv|^base graph|Ncb|k0|filler|wrap|end|^Kb|^C\b|^B\b",
+    "combining": r"transmission|rv|values", "processes": r"process|new data|again|transmission",
+    "decoder": r"^row|^place|^base graph|^set|^Zc|filler", "decision": r"code block|^C\b|^A\b|^K'",
 }
 
-# How far behind a property a limit stands that the step may depend on.
-LIMIT = 4
+# What a limit of a number costs more than its value, a second property, and what no step consumes. The least is told.
+LIMIT, SECOND, ELSEWHERE = 4, 6, 40
 
 # The numbers of which a single failing case says the value, by step.
 OWN = {"crc": "A", "graph": "A", "segmentation": "B", "lengths": "G"}
@@ -111,13 +113,19 @@ OWN = {"crc": "A", "graph": "A", "segmentation": "B", "lengths": "G"}
 
 @dataclasses.dataclass(frozen=True)
 class Condition:
-    """Words for what all failing cases have in common and none of the others. Also other words that these cases do not
-    tell from them, how many cases fail, and how many others there are."""
+    """Words for what all failing cases have in common and none of the others, and other words that these cases do not tell from
+    them; how many cases fail, and how many others there are."""
 
     words: str
     alike: tuple[str, ...]
     failing: int
     others: int
+
+    def line(self, others: str) -> str:
+        """The same as a line; `others` says which cases it is told from."""
+        alike = f" (the same cases: {'; '.join(self.alike)})" if self.alike else ""
+        fail = "the one that fails" if self.failing == 1 else f"all {self.failing} that fail"
+        return f"exactly where {self.words}{alike}: {fail}, none of {self.others} {others}"
 
 
 @dataclasses.dataclass(frozen=True)
@@ -138,100 +146,110 @@ def mask_of(flags: typing.Iterable[bool]) -> Cases:
     return int("".join("1" if flag else "0" for flag in flags)[::-1] or "0", 2)
 
 
-def values_of(facts: list[Facts], names: typing.Iterable[str]) -> list[Property]:
-    """Each value of these numbers as a property."""
-    found = []
-    for name in names:
-        numbers = [NUMBERS[name](it) for it in facts]
-        for value in sorted(set(numbers)):
-            found.append(Property(name_of(name, value), mask_of(it == value for it in numbers)))
-    return found
-
-
 def gap(name: str, right: int, wrong: int) -> str:
-    """Words for the gap of a limit, between a value that is right and one that is wrong. A power of two in it is said: it may be
-    the width of a counter."""
-    low, high = sorted((right, wrong))
-    power = 1 << high.bit_length() - 1 if high else 0
-    two = f", and 2^{power.bit_length() - 1} = {power:,} is between" if power >= 128 and low < power <= high else ""
-    return f"{name} {'>=' if wrong > right else '<='} {wrong:,} ({right:,} is right{two})"
-
-
-def limits_of(facts: list[Facts]) -> list[Property]:
-    """The limits of the numbers that have an order."""
-    found = []
-    for name in ORDERED:
-        numbers = [NUMBERS[name](it) for it in facts]
-        for value in sorted(set(numbers)):
-            found.append(Property(f"{name} >= {value:,}", mask_of(it >= value for it in numbers), True))
-            found.append(Property(f"{name} <= {value:,}", mask_of(it <= value for it in numbers), True))
-    return found
-
-
-def properties_of(facts: list[Facts]) -> list[Property]:
-    """All properties that some of these cases have, and some not."""
-    whole = (1 << len(facts)) - 1
-    found: list[Property] = []
-    found += values_of(facts, VALUES)
-    for words, contrary, test in YES_OR_NO:
-        yes = mask_of(test(it) for it in facts)
-        found += [Property(words, yes), Property(contrary, whole & ~yes)]
-    for name in MULTIPLES:
-        for width in (8, 16, 32, 64):
-            yes = mask_of(NUMBERS[name](it) % width > 0 for it in facts)
-            found.append(Property(f"{name} is no multiple of {width}", yes))
-            found.append(Property(f"{name} is a multiple of {width}", whole & ~yes))
-    found += [*values_of(facts, FURTHER), *limits_of(facts)]
-    return [it for it in found if it.cases not in (0, whole)]
+    """Words for the gap of a limit, between a value that is right and one that is wrong. A power of two is told if a case stands
+    at it, since it may be the width of a counter."""
+    two = f" = 2^{wrong.bit_length() - 1}" if wrong >= 128 and wrong > right and not wrong & (wrong - 1) else ""
+    return f"{name} {'>=' if wrong > right else '<='} {wrong:,}{two} ({right:,} is right)"
 
 
 def count(cases: Cases) -> int:
     return bin(cases).count("1")
 
 
-def rank(words: str, steps: typing.Iterable[str]) -> int:
-    """How likely one of these steps depends on a property: the smaller, the likelier."""
-    places = [place for step in steps for place, about in enumerate(ABOUT[step].split("|")) if re.search(about, words)]
-    # A limit that is anywhere in a gap says less than a property.
-    return min(places, default=99) + (LIMIT if "(" in words else 0)
+def cost(words: str, steps: typing.Iterable[str]) -> int:
+    """How little one of these steps depends on a property, or on two."""
+    total = -SECOND
+    for part in words.split(" and "):
+        places = [place for step in steps for place, about in enumerate(CONSUMED[step].split("|")) if re.search(about, part)]
+        total += min(places, default=ELSEWHERE) + SECOND + LIMIT * (">=" in part or "<=" in part or "right)" in part)
+    return total
 
 
 class Common:
-    """Finds what cases of a suite have in common."""
+    """Finds what cases of a suite have in common. A case has the numbers of its transmissions, of which an encoder's has one;
+    it has a property if one of them has it. `more` are further properties by case, and `order` is their order in the suite."""
 
-    def __init__(self, cases: typing.Iterable[Case]) -> None:
-        self.facts = {case.id: Facts(case) for case in cases}
-        self.places = {name: 1 << place for place, name in enumerate(self.facts)}
-        self.properties = properties_of(list(self.facts.values()))
+    def __init__(
+        self, cases: typing.Mapping[str, typing.Sequence[Facts]], more: typing.Mapping[str, typing.Iterable[str]] | None = None,
+        order: typing.Mapping[str, int] | None = None,
+    ) -> None:
+        self.facts, self.more, self.order = cases, more or {}, order or {}
+        self.places = {name: 1 << place for place, name in enumerate(cases)}
+        self.numbers = {name: [[read(it) for it in facts] for facts in cases.values()] for name, read in NUMBERS.items()}
+        self.whole = (1 << len(cases)) - 1
+        self.properties = [it for it in self.all_properties() if it.cases not in (0, self.whole)]
+
+    def all_properties(self) -> typing.Iterator[Property]:
+        """All properties, also those that every case has."""
+        yield from self.values_of(VALUES)
+        for words, contrary, test in YES_OR_NO:
+            yes = mask_of(any(map(test, it)) for it in self.facts.values())
+            yield from (Property(words, yes), Property(contrary, self.whole & ~yes))
+        for name, width in itertools.product(MULTIPLES, (2, 8, 16, 32, 64)):
+            yes = mask_of(any(it % width for it in numbers) for numbers in self.numbers[name])
+            yield Property(f"{name} is no multiple of {width}", yes)
+            yield Property(f"{name} is a multiple of {width}", self.whole & ~yes)
+        named = dict.fromkeys(words for name in self.places for words in self.more.get(name, ()))
+        yield from (Property(words, mask_of(words in self.more.get(name, ()) for name in self.places)) for words in named)
+        yield from self.values_of(FURTHER)
+        for name in ORDERED:
+            numbers = [max(it) for it in self.numbers[name]]
+            for value in sorted(set(numbers)):
+                yield Property(f"{name} >= {value:,}", mask_of(it >= value for it in numbers), True)
+                yield Property(f"{name} <= {value:,}", mask_of(it <= value for it in numbers), True)
+
+    def values_of(self, names: typing.Iterable[str]) -> typing.Iterator[Property]:
+        """Each value of these numbers as a property."""
+        for name in names:
+            for value in sorted({it for numbers in self.numbers[name] for it in numbers}):
+                yield Property(name_of(name, value), mask_of(value in numbers for numbers in self.numbers[name]))
 
     def tells(self, name: str) -> bool:
         """Whether a case that passes says much: a block of zeros, or of a single one, hides most mistakes."""
-        return self.facts[name].random and max(self.facts[name].shares) >= INFORMATIVE
+        return all(it.random and max(it.shares) >= INFORMATIVE for it in self.facts[name])
 
     def condition(
-        self, failing: typing.Collection[str], others: typing.Collection[str], steps: typing.Collection[str] = ()
+        self, failing: typing.Collection[str], others: typing.Collection[str], steps: typing.Collection[str] = (),
+        against: int = AGAINST
     ) -> Condition | None:
-        """What all failing cases have, and none of the others: one property before two. `steps` are those in which the
-        mistake may be made: what they depend on is said first."""
+        """What all failing cases have, and none of the others, of which there must be so many. `steps` are those in which the
+        mistake may be made: what they consume is told first."""
         bad, good = (sum(self.places[name] for name in set(names)) for names in (failing, others))
-        if count(good) < AGAINST:
+        if count(good) < against or not bad:
             return None
         if len(failing) < FOR_ONE:
-            return self.only(failing, bad, good, steps)
-        single = [(it.words, it.cases) for it in self.properties if not it.is_limit]
-        single += [(words, bad) for words in self.ranges(failing, others)]
-        return self.best(single, bad, good, steps) or self.best(self.pairs(bad, good, len(failing)), bad, good, steps)
+            names = [OWN[step] for step in steps if step in OWN] if len(steps) == 1 else []
+            found = [(it.words, it.cases) for it in self.values_of(names)]
+        else:
+            found = [(it.words, it.cases) for it in self.properties if not it.is_limit]
+            found += [(words, bad) for words in self.ranges(failing, others)] + self.pairs(bad, good, len(failing))
+        words_of = [words for words, cases in found if not bad & ~cases and not cases & good]
+        if not words_of:
+            return None
+        words_of.sort(key=lambda words: cost(words, steps))
+        return Condition(words_of[0], tuple(it for it in words_of[1:] if " and " not in it)[: ALIKE - 1], count(bad), count(good))
 
-    def only(self, failing: typing.Iterable[str], bad: Cases, good: Cases, steps: typing.Collection[str]) -> Condition | None:
-        """The value of a step's own number in a single case that fails."""
-        names = [OWN[step] for step in steps if step in OWN] if len(steps) == 1 else []
-        found = values_of(list(self.facts.values()), names)
-        return self.best([(it.words, it.cases) for it in found], bad, good, steps) if list(failing) else None
+    def shared_by(
+        self, failing: typing.Collection[str], others: typing.Collection[str], steps: typing.Collection[str] = ()
+    ) -> list[str]:
+        """A property that all failing cases have and fewer others than fail, in words, if there is one."""
+        bad, good = (sum(self.places[name] for name in set(names)) for names in (failing, others))
+        found = [(count(it.cases & good), cost(it.words, steps), it.words) for it in self.properties
+                 if not it.is_limit and not bad & ~it.cases and count(it.cases & good) <= max(count(bad), 2)]
+        if not found or len(failing) < FOR_ONE:
+            return []
+        there, _, words = min(found)
+        return [f"all {count(bad)} that fail have in common: {words} ({there} of {count(good)} others have it too)"]
 
     def ranges(self, failing: typing.Collection[str], others: typing.Collection[str]) -> typing.Iterator[str]:
         """The limits and the ranges of numbers in which all failing cases are and no other, in words."""
+        at = [(self.order[it], it) for it in failing if self.order]
+        if at and all(self.order[it] < min(at)[0] for it in others):
+            yield f"the case is {min(at)[1]} or stands after it in the suite"
         for name in ORDERED:
-            bad, good = (sorted(NUMBERS[name](self.facts[it]) for it in names) for names in (failing, others))
+            by_case = dict(zip(self.places, self.numbers[name]))
+            bad, good = (sorted(max(by_case[it]) for it in names) for names in (failing, others))
             below, above = ([it for it in good if it < bad[0]], [it for it in good if it > bad[-1]])
             if len(below) == len(good):
                 yield gap(name, below[-1], bad[0])
@@ -254,14 +272,3 @@ class Common:
             if not one.cases & two.cases & good and not (one.is_limit and two.is_limit)
             and min(count(one.cases & good), count(two.cases & good)) >= EACH
         ]
-
-    @staticmethod
-    def best(
-        found: list[tuple[str, Cases]], bad: Cases, good: Cases, steps: typing.Collection[str]
-    ) -> Condition | None:
-        """The condition of all failing cases and no other; its words are those that the steps most likely depend on."""
-        words_of = [words for words, cases in found if not bad & ~cases and not cases & good]
-        if not words_of:
-            return None
-        words_of.sort(key=lambda words: rank(words, steps))
-        return Condition(words_of[0], tuple(words_of[1:ALIKE]), count(bad), count(good))
