@@ -7,6 +7,8 @@ import typing
 
 LIST = pathlib.Path(__file__).with_name("faults.txt")
 ENTRY = re.compile(r"(?:(\d+) )?(\w+)(?:: (.*))?")
+# A line, and those below it that are indented.
+LINES = re.compile(r"(?m)^([^#\n].*)((?:\n  .*)*)")
 PLACE = re.compile(r"\b(record|graph|line) N\b")
 
 
@@ -65,7 +67,7 @@ def listed() -> typing.Dict[str, typing.List[Fault]]:
     """The faults of each section of the list."""
     sections: typing.Dict[str, typing.List[Fault]] = {}
     step = ""
-    for first, more in re.findall(r"(?m)^([^#\n].*)((?:\n  .*)*)", LIST.read_text()):
+    for first, more in LINES.findall(LIST.read_text().partition("\n[calls]\n")[0]):
         if first.startswith("["):
             found = sections.setdefault(first[1:-1], [])
         elif not first.startswith("> "):
@@ -74,40 +76,48 @@ def listed() -> typing.Dict[str, typing.List[Fault]]:
     return sections
 
 
-SECTIONS = listed()
-OF_BLOCK = "efused with status 1, by 'linksim: refused: block N' and"
+def errors_of_calls() -> typing.Dict[str, str]:
+    """The errors of each call of nr.h in order, and of the lists that these name in capitals."""
+    return {first.partition(": ")[0]: " ".join((first.partition(": ")[2] + more).split())
+            for first, more in LINES.findall(LIST.read_text().partition("\n[calls]\n")[2])}
+
+
+SECTIONS, CALLS = listed(), errors_of_calls()
+OF_BLOCK = "ejected with status 1 and 'linksim: refused: block N' followed by"
 LATER = {fault.name: fault for name in ("block", "transmission") for fault in SECTIONS[name] if fault.cause}
 FILES = {
     "table": Kind(
-        "The shift table, as comma-separated values (-: standard input)",
+        "The shift table, as comma-separated values (- for standard input)",
         [
             "The first record may be a header that begins with graph. Each other record has eleven numbers:",
-            "base graph 1 or 2; row 0-45, or 0-41; column 0-67, or 0-51; the eight values, 0-65535.",
+            "the base graph, 1 or 2; the row, 0-45 (graph 2: 0-41); the column, 0-67 (graph 2: 0-51); and the shift",
+            "values of the eight lifting-size sets, 0-65535.",
         ],
         SECTIONS["table"], "", [],
     ),
     "settings": Kind(
-        "The code rate and the limit of the buffer, as TOML (-: standard input)",
+        "The code rate and the limit of the circular buffer, as TOML (- for standard input)",
         [
-            "rate2048 = 1-2048, twice the target code rate x 1024 of the MCS tables of TS 38.214; and if wanted",
-            "lbrm = 0-4294967295, the TBS_LBRM that limits the circular buffer (5.4.2.1).",
+            "rate2048 = 1-2048: twice the target code rate x 1024 of the MCS tables of TS 38.214",
+            "lbrm = 0-4294967295, optional: TBS_LBRM, which limits the circular buffer (TS 38.212, 5.4.2.1)",
         ],
-        SECTIONS["settings"], f"With the blocks: r{OF_BLOCK}", [LATER["Graph"], LATER["NoBuffer"]],
+        SECTIONS["settings"], f"Together with the blocks: r{OF_BLOCK}", [LATER["Graph"], LATER["NoBuffer"]],
     ),
     "blocks": Kind(
-        "The transport blocks, one a line in hexadecimal (-: standard input)",
-        ["At most 256 lines, each of two digits for an octet, in either case, and at most 327,680 digits."],
+        "The transport blocks, one per line in hexadecimal (- for standard input)",
+        ["At most 256 lines, with two hexadecimal digits of either case for each octet and at most 327,680 digits."],
         SECTIONS["blocks"], f"R{OF_BLOCK}", [LATER["Uneven"]],
     ),
     "schedule": Kind(
-        "The transmissions, as comma-separated values (-: standard input)",
+        "The transmissions, as comma-separated values (- for standard input)",
         [
-            "The header is block,rv,g,qm,nl,erase, and may go on with ,flip or ,flip,mask or",
-            ",flip,mask,process,fresh; at most 4,096 records follow. block counts from 1; rv is 0-3;",
-            "g 1-4194304, a multiple of nl * qm; qm 1, 2, 4, 6 or 8; nl 1-4; erase - or all or places or",
-            "pcg:seed:threshold; flip - or all or places; mask all or code blocks; process 0-15; fresh 0 or 1.",
+            "The header is block,rv,g,qm,nl,erase, optionally followed by ,flip or ,flip,mask or",
+            ",flip,mask,process,fresh. At most 4,096 records follow. block counts from 1; rv is 0-3;",
+            "g is 1-4194304, a multiple of nl * qm; qm is 1, 2, 4, 6 or 8; nl is 1-4; erase is -, all, places or",
+            "pcg:seed:threshold; flip is -, all or places; mask is all or code blocks; process is 0-15; fresh is 0 or 1.",
         ],
-        SECTIONS["schedule"], "A transmission without bits is a line 'refused' of send and run, with status 0, and",
+        SECTIONS["schedule"],
+        "A rejected transmission does not end a run (status 0). It is a line 'refused' of send and run, which ends with",
         [fault for fault in SECTIONS["transmission"] if fault.cause],
     ),
 }
@@ -134,14 +144,14 @@ def aligned(faults: typing.List[Fault]) -> typing.List[str]:
 def of_file(name: str) -> str:
     """What the long help says of the option of a file."""
     kind = FILES[name]
-    lines = [kind.about, "", *kind.accepted, "", f"Refused with status 1, by 'linksim: refused: {name}' and"]
+    lines = [kind.about, "", *kind.accepted, "", f"Rejected with status 1 and 'linksim: refused: {name}' followed by"]
     lines += aligned(kind.faults)
     return "\n".join([*lines, "", kind.how, *aligned(kind.later)] if kind.later else lines)
 
 
 def of_all() -> str:
     """What the long help of each command says of what is refused beside its files."""
-    return "\n".join(["Refused with status 1, by 'linksim: refused:' and", *aligned(ALWAYS)])
+    return "\n".join(["Fails with status 1 and 'linksim: refused:' followed by", *aligned(ALWAYS)])
 
 
 def named(word: str) -> typing.List[typing.Tuple[str, Fault]]:

@@ -33,7 +33,7 @@ def octets_of(path: Path, most: int, cut: bool = False) -> bytes:
     except (OSError, ValueError) as error:
         raise Failed(f"{shown(path)} cannot be read: {getattr(error, 'strerror', None) or error}") from None
     if len(octets) > most and not cut:
-        raise Failed(f"{shown(path)} has more than {most:,} octets: see whether it is the file that you meant")
+        raise Failed(f"{shown(path)} has more than {most:,} octets: check that it is the file that you meant")
     return octets[:most]
 
 
@@ -50,11 +50,11 @@ def text_of(path: Path, most: int) -> str:
     """The same as text in UTF-8."""
     octets = octets_of(path, most)
     if b"\0" in octets:
-        raise Failed(f"{shown(path)} is no text: octet {octets.index(0) + 1} is zero")
+        raise Failed(f"{shown(path)} is not text: octet {octets.index(0) + 1} is zero")
     try:
         return octets.decode("utf-8-sig")
     except UnicodeDecodeError as error:
-        raise Failed(f"{shown(path)} is no text in UTF-8: octet {error.start + 1} begins no character") from None
+        raise Failed(f"{shown(path)} is not UTF-8 text: octet {error.start + 1} does not begin a character") from None
 
 
 def numbered_lines(path: Path, most: int = LINE) -> typing.Iterator[tuple[int, str]]:

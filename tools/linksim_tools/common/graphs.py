@@ -1,4 +1,4 @@
-"""The numbers of the base graphs and lifting sizes that the tools need (TS 38.212, 5.3.2 and Table 5.3.2-1)."""
+"""The numbers of the base graphs, lifting sizes and redundancy versions that the tools need (TS 38.212, 5.3.2 and 5.4.2.1)."""
 
 from __future__ import annotations
 
@@ -8,6 +8,8 @@ import dataclasses
 FACTORS = (2, 3, 5, 7, 9, 11, 13, 15)
 LARGEST = (256, 384, 320, 224, 288, 352, 208, 240)
 SETS = range(len(LARGEST))
+# The starting positions of Table 5.4.2.1-2, by base graph: numerators for the redundancy versions, over the columns sent.
+STARTS = {1: ((0, 17, 33, 56), 66), 2: ((0, 13, 25, 43), 50)}
 
 
 @dataclasses.dataclass(frozen=True)

@@ -15,12 +15,16 @@ import sys
 import tempfile
 import typing
 
-ROOT = pathlib.Path(__file__).resolve().parents[3]
-BUILD = "(cd crates/linksim && rt run -- --version)"
+from linksim_tools.common.message import MOST_MESSAGE, shown
 
-# Where the program stands: built in a checkout, beside the tools, or installed, with the tools in share/linksim.
-BUILT = ROOT / "crates" / "linksim" / "out" / "linksim"
-PLACES = (BUILT, ROOT / "bin" / "linksim", ROOT.parent.parent / "bin" / "linksim")
+PACKAGE = pathlib.Path(__file__).resolve().parents[1]
+IN_CHECKOUT = (PACKAGE.parents[1] / "crates" / "linksim").is_dir()
+# Where the examples are: the top of a checkout, or share/linksim of the prefix that these tools are installed below.
+SHARES = (it / "share" / "linksim" for it in PACKAGE.parents if (it / "share" / "linksim").is_dir())
+ROOT = PACKAGE.parents[1] if IN_CHECKOUT else next(SHARES, PACKAGE)
+DOCUMENTS = ROOT / "docs" if IN_CHECKOUT else ROOT.parent / "doc" / "linksim" / "docs"
+PROGRAM = ROOT / "crates" / "linksim" / "out" / "linksim" if IN_CHECKOUT else ROOT.parent.parent / "bin" / "linksim"
+BUILD = "tools/first-build builds it" if IN_CHECKOUT else "the package linksim has it"
 
 
 class Failed(Exception):
@@ -30,15 +34,18 @@ class Failed(Exception):
 
 
 class Wrong(Failed):
-    """A word, or a file that a word names, is not what the tool wants."""
+    """A word of the command line is not what the tool takes."""
 
     status = 2
 
 
 def name_of(tool: str) -> str:
-    """What a tool calls itself: `linksim-curve` if it was called so, as it is installed, else `tools/curve`."""
-    installed = f"linksim-{tool}"
-    return installed if pathlib.Path(sys.argv[0]).name == installed else f"tools/{tool}"
+    """What a tool is called here: `linksim-table` where tools are installed, `python -m nr.table` as the module, else
+    `tools/table`."""
+    called = pathlib.Path(sys.argv[0]).name
+    if called.startswith("linksim-"):
+        return f"linksim-{tool}"
+    return f"python -m nr.{tool}" if called == f"{tool}.py" else f"tools/{tool}"
 
 
 def as_installed(tool: str, text: str) -> str:
@@ -47,7 +54,7 @@ def as_installed(tool: str, text: str) -> str:
     if name_of(tool).startswith("tools/"):
         return named
     placed = re.sub(r"(?<![\w/])examples/", f"{ROOT / 'examples'}/", named)
-    return re.sub(r"(?<![\w/])docs/", f"{ROOT.parent / 'doc' / 'linksim' / 'docs'}/", placed)
+    return re.sub(r"(?<![\w/])docs/", f"{DOCUMENTS}/", placed) if DOCUMENTS.is_dir() else placed
 
 
 def add_program(parser: argparse.ArgumentParser) -> None:
@@ -64,21 +71,27 @@ def is_program(path: pathlib.Path) -> bool:
 
 
 def program_at(name: str | None = None) -> pathlib.Path:
-    """The absolute path of the program, or a failure that says how to build it. What names itself otherwise is refused."""
+    """The absolute path of the program, or a failure that says how to get it. What names itself otherwise is rejected."""
     if name is None:
-        found = next((str(path) for path in PLACES if is_program(path)), None) or shutil.which("linksim")
-        said = "no program linksim beside the tools or in PATH; name one by --program, or build it"
+        found = str(PROGRAM) if is_program(PROGRAM) else shutil.which("linksim")
+        said = f"this needs the program linksim, which is neither {PROGRAM} nor in PATH: {BUILD}, or --program names it"
     else:
         path = pathlib.Path(name)
         found = str(path) if is_program(path) else shutil.which(str(name)) if path.name == str(name) else None
-        said = f"no program at {path.resolve()}; this builds it"
+        said = f"no program at {path.resolve()}" + (f": {BUILD}" if path.resolve() == PROGRAM else "")
     if not found:
-        raise Failed(f"{said}, from the repository's top: {BUILD}")
+        raise Failed(said)
     program = pathlib.Path(found).resolve()
+    version_of(program)
+    return program
+
+
+def version_of(program: pathlib.Path) -> str:
+    """The version that the program names. What names itself otherwise is rejected."""
     said = output_of(program, ["--version"]).partition("\n")[0]
     if not said.startswith("linksim "):
-        raise Wrong(f"{program} is no program linksim: it answers {said!r} to --version")
-    return program
+        raise Failed(f"{program} is not linksim: it answers {shown(said)!r} to --version")
+    return said.rpartition(" ")[2]
 
 
 def output_of(
@@ -100,12 +113,6 @@ def plan_of(line: str) -> dict[str, int]:
     """The numbers of a line `block 1 a 8 b 24 ..` of `cut` by name."""
     words = line.split()
     return {name: int(number) for name, number in zip(words[2::2], words[3::2])}
-
-
-def plan_of_block(program: pathlib.Path, rate2048: int, block: str, of: str = "") -> dict[str, int]:
-    """The numbers of a block of these hexadecimal digits, as the program cuts it."""
-    words = ["cut", "--rate", str(rate2048), "--blocks", "-"]
-    return plan_of(output_of(program, words, f"{block}\n".encode(), of).partition("\n")[0])
 
 
 def settings_text(rate2048: int, lbrm: int | None = None) -> str:
@@ -131,7 +138,7 @@ def ended(tool: str, status: int, said: typing.Any = None) -> None:
     """Ends a tool with a status, and with its one line if it has one. Standard output is put aside: what it could
     not take is not tried once more."""
     if said is not None:
-        print(f"{name_of(tool)}: {said}", file=sys.stderr)
+        print(f"{name_of(tool)}: {shown(said, MOST_MESSAGE)}", file=sys.stderr)
         os.dup2(os.open(os.devnull, os.O_WRONLY), sys.stdout.fileno())
     sys.exit(status)
 
@@ -144,12 +151,12 @@ def named_in_faults(path: str | os.PathLike[str]) -> typing.Iterator[None]:
     except BrokenPipeError:
         raise
     except OSError as error:
-        raise Wrong(f"{os.fspath(path)}: {error.strerror or error}") from None
+        raise Failed(f"{os.fspath(path)}: {error.strerror or error}") from None
 
 
 def main_of(tool: str, main: typing.Callable[..., typing.Any]) -> None:
-    """Runs a tool's main function and ends with its status. With one line it is 1 if it failed, 2 if a word or a file was wrong,
-    and 130 if it was interrupted. It ends quietly if the reader of its output has gone."""
+    """Runs a tool's main function and ends with its status. With one line it is 1 if it failed, 2 if a word was wrong, and 130 if
+    it was interrupted. It ends quietly if the reader of its output has gone."""
     signal.signal(signal.SIGINT, signal.default_int_handler)
     try:
         try:
@@ -160,13 +167,15 @@ def main_of(tool: str, main: typing.Callable[..., typing.Any]) -> None:
         sys.exit(status)
     except Failed as failed:
         ended(tool, failed.status, failed)
+    except ImportError as error:
+        ended(tool, 1, error)
     except BrokenPipeError:
         os.dup2(os.open(os.devnull, os.O_WRONLY), sys.stdout.fileno())
         sys.exit(1)
     except OSError as error:
         closed = error.filename is None and error.errno == errno.EBADF
-        ended(tool, 2, f"{error.filename or 'standard output'}: {'it is closed' if closed else error.strerror or error}")
+        ended(tool, 1, f"{error.filename or 'standard output'}: {'it is closed' if closed else error.strerror or error}")
     except MemoryError:
-        ended(tool, 2, "the system gave no memory: what is read or made is too large for it")
+        ended(tool, 1, "the system gave no memory: what is read or made is too large for it")
     except KeyboardInterrupt:
         ended(tool, 130, "interrupted")

@@ -1,4 +1,4 @@
-"""What made a result: the version of the tools, the program and its digest, the table's, and the specification.
+"""What made a result: the versions of the tools, of the library and of the program, digests, the table's, and the specification.
 
 No host, no user and no date is part of it, so two machines that made the same things say the same.
 """
@@ -12,15 +12,15 @@ import os
 import pathlib
 import re
 import subprocess
-import typing
 
-from linksim_tools.common.program import ROOT, output_of
+from linksim_tools.common.program import IN_CHECKOUT, ROOT, version_of
 
 # The clauses are those of Release 15. Which version of it (V15.x.y) was read is not recorded, and none was compared.
 SPECIFICATION = "3GPP TS 38.212 Release 15"
 # What `make install` writes beside the installed tools: how the program was built.
-BUILT = ROOT / "tools" / "built.json"
-DIGITS = 12
+BUILT = ROOT / "built.json"
+# The prover's last lines on the program and on the library for C, each after the crate's name: `gate/trust --write` keeps them.
+VERDICTS = pathlib.Path(__file__).with_name("verdicts.txt")
 
 
 def digest_of(path: str | os.PathLike[str]) -> str:
@@ -34,9 +34,8 @@ def digest_of(path: str | os.PathLike[str]) -> str:
 
 def version_of_tools() -> str:
     """The version of the project that the tools are of; `unknown` if no file says it."""
-    places = [ROOT / "VERSION", ROOT.parent.parent / "VERSION"]
-    found = next((path.read_text().strip() for path in places if path.is_file()), "")
-    return found or built().get("version", "unknown")
+    path = ROOT / "VERSION"
+    return path.read_text().strip() if IN_CHECKOUT and path.is_file() else built().get("version", "unknown")
 
 
 def built() -> dict[str, str]:
@@ -46,6 +45,11 @@ def built() -> dict[str, str]:
     except (OSError, ValueError):
         return {}
     return {str(name): str(value) for name, value in said.items()} if isinstance(said, dict) else {}
+
+
+def verdicts() -> list[str]:
+    """The prover's verdicts on what is built for users, each after the name of its crate."""
+    return VERDICTS.read_text().splitlines() if VERDICTS.exists() else []
 
 
 def asked(words: list[str], form: str) -> str:
@@ -79,25 +83,25 @@ def commit() -> str:
 
 @dataclasses.dataclass(frozen=True)
 class Source:
-    """What made a result."""
+    """What made a result: the library, and the program if that had a part in it."""
 
     tools: str
-    program: str
-    program_sha256: str
-    table_sha256: str
+    library: str
+    library_sha256: str
+    program: str = ""
+    program_sha256: str = ""
+    table_sha256: str = ""
     specification: str = SPECIFICATION
 
     def words(self) -> dict[str, str]:
-        """As JSON has it; a digest that does not apply is left out."""
+        """As JSON has it; what does not apply is left out."""
         return {name: value for name, value in dataclasses.asdict(self).items() if value}
 
-    def short(self, *more: typing.Any) -> str:
-        """Twelve digits that stand for all of it, and for what else made the result."""
-        text = json.dumps([dataclasses.asdict(self), *more], sort_keys=True, separators=(",", ":"))
-        return hashlib.sha256(text.encode()).hexdigest()[:DIGITS]
 
+def source_of(program: pathlib.Path | None = None, table: str | os.PathLike[str] | None = None) -> Source:
+    """What makes results by the library, by this program and of this table."""
+    import nr
 
-def source_of(program: pathlib.Path, table: str | os.PathLike[str] | None = None) -> Source:
-    """What makes results by this program and this table."""
-    version = output_of(program, ["--version"]).strip().rpartition(" ")[2]
-    return Source(version_of_tools(), version, digest_of(program), digest_of(table) if table is not None else "")
+    library = version_of_tools(), nr.__version__, digest_of(nr.library_base())
+    made = (version_of(program), digest_of(program)) if program else ("", "")
+    return Source(*library, *made, digest_of(table) if table is not None else "")

@@ -7,6 +7,7 @@ import sys
 import typing
 
 from linksim_tools.common import files
+from linksim_tools.common.message import shown
 from linksim_tools.common.program import Failed
 
 try:
@@ -27,11 +28,11 @@ def settings_of(path: str) -> tuple[int, int | None]:
     """The rate in 2048ths of a settings file and its TBS_LBRM, or None."""
     settings = read(path)
     for name in settings.keys() - {"rate2048", "lbrm"}:
-        raise Failed(f"{path}: {name} is no key of settings, which are rate2048 and lbrm")
-    for name, numbers in (("rate2048", range(1, 2049)), ("lbrm", range(1 << 32))):
+        raise Failed(f"{path}: {shown(name)} is not a key of the settings, which are rate2048 and lbrm")
+    for name, numbers in (("rate2048", range(1, 2049)), ("lbrm", range(1, 1 << 32))):
         value = settings.get(name, 1 if name == "lbrm" else None)
         if type(value) is not int or value not in numbers:
-            raise Failed(f"{path}: {name} is no whole number of {numbers[0]} to {numbers[-1]}")
+            raise Failed(f"{path}: {name} is not a whole number from {numbers[0]} to {numbers[-1]}")
     return settings["rate2048"], settings.get("lbrm")
 
 
@@ -45,6 +46,6 @@ def parsed(path: pathlib.Path | str, octets: bytes) -> dict[str, typing.Any]:
         keys: dict[str, typing.Any] = tomllib.loads(octets.decode("utf-8-sig"))
         return keys
     except ValueError as error:
-        raise Failed(f"{path}: no TOML: {error}") from None
+        raise Failed(f"{path}: not TOML: {shown(error, 120)}") from None
     except RecursionError:
-        raise Failed(f"{path}: no TOML: values lie too deep in one another") from None
+        raise Failed(f"{path}: not TOML that can be read: values are nested too deep") from None

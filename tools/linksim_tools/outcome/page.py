@@ -7,10 +7,10 @@ import typing
 
 from linksim_tools.common.graphs import GRAPHS
 from linksim_tools.conform.page import document, escaped, paragraph
-from linksim_tools.outcome.fixed import FILLER, HEARD, STUCK
+from linksim_tools.outcome.origins import FILLER, HEARD, STUCK
 
 if typing.TYPE_CHECKING:
-    from linksim_tools.outcome.ended import Outcome
+    from linksim_tools.outcome.endings import Outcome
 
 # A picture is so wide, of which each column has so much; its height, and that of a position at most.
 WIDE, COLUMN, TOP, HIGH, MOST = 372, 5, 16, 230, 8

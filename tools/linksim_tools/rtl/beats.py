@@ -25,7 +25,7 @@ class Bus:
 
     def __post_init__(self) -> None:
         if not 1 <= self.width <= WIDEST:
-            raise Wrong(f"--width is 1 to {WIDEST}: {self.width}")
+            raise Wrong(f"--width must be 1 to {WIDEST}, and not {self.width}")
 
     @property
     def lanes(self) -> int:

@@ -2,11 +2,10 @@
 
 from __future__ import annotations
 
-import dataclasses
 import random
 import typing
 
-from linksim_tools.common import rate_matching
+import nr
 from linksim_tools.conform.case import Case, Plan
 from linksim_tools.conform.clauses import Impossible, right
 
@@ -61,11 +60,6 @@ def block_of(draw: random.Random, a: int) -> str:
     return f"{1 << draw.randrange(a) if kind == 2 else draw.getrandbits(a):0{a}b}"
 
 
-def keeps(plan: Plan, length: int) -> bool:
-    """Whether the code blocks are equally long, and the buffer has a bit that is no filler."""
-    return (plan.b + plan.c * plan.l) % plan.c == 0 and length > 0 and plan.kdash > 2 * plan.z
-
-
 def tried(draw: random.Random, name: str, graphs: typing.Container[int]) -> Case | None:
     """A transmission, or None if what was drawn is none."""
     a, rate = near(draw, SIZES, MOST_A, 8), near(draw, RATES, 2048, 1)
@@ -75,13 +69,14 @@ def tried(draw: random.Random, name: str, graphs: typing.Container[int]) -> Case
     except Impossible:
         return None
     limit = limit_of(draw, plan)
-    numbers = dataclasses.asdict(plan)
-    length = rate_matching.buffer_length(numbers, limit)
-    if plan.graph not in graphs or not keeps(plan, length):
+    try:
+        length, start = nr.buffer(a, version, rate2048=rate, lbrm=limit)
+    except nr.Fault:
+        return None
+    if plan.graph not in graphs or plan.kdash <= 2 * plan.z:
         return None
     mask, count = mask_of(draw, plan.c)
     unit = symbol * layers
-    start = rate_matching.start(numbers, length, version)
     symbols = wanted_of(draw, plan, length, start) * count // unit + draw.randrange(2)
     total = min(max(symbols, 1) * unit, MOST_G // unit * unit)
     return Case(name, block_of(draw, a), rate, limit, version, total, symbol, layers, mask)

@@ -6,7 +6,7 @@ import dataclasses
 import typing
 
 from linksim_tools.common.graphs import GRAPHS, SETS
-from linksim_tools.common.program import Wrong
+from linksim_tools.common.program import Failed, Wrong
 from linksim_tools.conform.case import Row, Tables
 from linksim_tools.conform.clauses import SETS as SETS_OF_SIZES
 
@@ -38,10 +38,10 @@ def sections(tables: Tables, sizes: list[int]) -> list[Section]:
     found = []
     most = max(value for rows in tables.values() for row in rows for _, values in row for value in values)
     if not sizes and most >> COLUMN:
-        raise Wrong(f"the table has the value {most}, and a word has {COLUMN} bits for it: --z reduces it")
+        raise Failed(f"the table has the value {most}, and a word has {COLUMN} bits for it: use --z to reduce it")
     for z in sizes:
         if z not in SETS_OF_SIZES:
-            raise Wrong(f"--z: {z} is no lifting size of Table 5.3.2-1")
+            raise Wrong(f"--z: {z} is not a lifting size of Table 5.3.2-1")
     for graph in GRAPHS:
         rows = tables.get(graph, [])
         found += [Section(f"base graph {graph}, Zc = {z}", words_of(rows, SETS_OF_SIZES[z], z)) for z in sizes]

@@ -6,8 +6,10 @@ import hashlib
 import pathlib
 import typing
 
+import nr
 from linksim_tools.common.graphs import GRAPHS, LARGEST, SETS
-from linksim_tools.common.program import answers_of, output_of, settings_text
+from linksim_tools.common.tables import table_at
+from linksim_tools.conform.bits import hexadecimal, of_library
 
 # The code rates in 2048ths by which a block of the sizes below takes each base graph (TS 38.212, 6.2.2 and 7.2.2).
 RATES = {1: 2048, 2: 512}
@@ -32,22 +34,16 @@ def block(graph: int, index: int) -> bytes:
     return octets[:count]
 
 
-def sent(program: pathlib.Path, table: str | pathlib.Path, graph: int) -> list[str]:
-    """What the program sends of each of the eight blocks of a base graph, in hexadecimal, by set index."""
-    blocks = (block(graph, index).hex() for index in SETS)
-    lines = [f"{index + 1},0,{GRAPHS[graph].sent * LARGEST[index]},1,1,-" for index in SETS]
-    answers = answers_of(program, "send", table, settings_text(RATES[graph]), blocks, ["block,rv,g,qm,nl,erase", *lines])
-    return [line.split()[3] for line in answers]
+def digest(table: nr.Table, graph: int, index: int) -> str:
+    """The digest of what is sent, in hexadecimal, of the block of a base graph and a set index."""
+    tx = nr.Tx(GRAPHS[graph].sent * LARGEST[index])
+    sent = hexadecimal(of_library(nr.send(table, block(graph, index), tx, rate2048=RATES[graph])))
+    return hashlib.sha256(sent.encode()).hexdigest()[:DIGITS]
 
 
-def digest_of(digits: str) -> str:
-    """The digest of what is sent of a block."""
-    return hashlib.sha256(digits.encode()).hexdigest()[:DIGITS]
-
-
-def fingerprint(program: pathlib.Path, table: str | pathlib.Path) -> typing.Iterator[str]:
+def fingerprint(path: str | pathlib.Path) -> typing.Iterator[str]:
     """The lines `graph G set S DIGEST` of each base graph that the table file has."""
-    counts = output_of(program, ["check", "--table", table]).splitlines()
-    for graph in (int(line.split()[1]) for line in counts):
-        for index, digits in enumerate(sent(program, table, graph)):
-            yield f"graph {graph} set {index} {digest_of(digits)}"
+    table = table_at(path)
+    for graph in [number for number, entries in ((1, table.one), (2, table.two)) if entries]:
+        for index in SETS:
+            yield f"graph {graph} set {index} {digest(table, graph, index)}"

@@ -6,6 +6,7 @@ import re
 import typing
 
 from linksim_tools.common.graphs import GRAPHS, LARGEST
+from linksim_tools.common.message import shown
 from linksim_tools.common.program import Failed
 from linksim_tools.table.rows import ENTRY, Reading, halve
 
@@ -85,15 +86,21 @@ def parts_of(lines: list[Line], graph: int | None) -> dict[int, Part]:
     return {number: part for number, part in sorted(parts.items()) if part.lines}
 
 
+def files_of(lines: list[Line]) -> str:
+    """The names of the files that lines are of."""
+    return ", ".join(dict.fromkeys(line.file for line in lines))
+
+
 def read_part(graph: Graph, part: Part) -> list[tuple[int, ...]]:
     """The entries of one graph's table, row by row, or a failure that names the row which could not be read."""
     if all(len(line.cells) < ENTRY for line in part.lines):
         raise Failed(
-            f"{part.lines[0].file}: no line of {graph.table} has an entry: its lines must be whole, as those of pdftotext -layout are"
+            f"{part.lines[0].file}: no line of {graph.table} has an entry: lines must be complete, "
+            "as in the output of pdftotext -layout"
         )
     best: tuple[tuple[bool, int], Reading] | None = None
     for two, placed, alone, pages in part.layouts():
-        reading = Reading(graph, two, placed, alone)
+        reading = Reading(graph, two, placed, alone, files_of(part.lines))
         entries = reading.pages(pages)
         if entries is not None:
             return entries
@@ -108,8 +115,8 @@ def read_part(graph: Graph, part: Part) -> list[tuple[int, ...]]:
     refusal = best[1].refusal
     text = f"graph {graph.number}, row {refusal.row} could not be read: {refusal}"
     if reading.stopped is None:
-        raise Failed(text)
-    raise Failed(f"{reading.stopped.place}: {text}: {' '.join(reading.stopped.text.split())}")
+        raise Failed(f"{files_of(part.lines)}: {text}")
+    raise Failed(f"{reading.stopped.place}: {text}: {shown(' '.join(reading.stopped.text.split()))}")
 
 
 def is_file(lines: list[Line]) -> bool:
@@ -125,39 +132,37 @@ def read_file(lines: list[Line]) -> dict[int, list[tuple[int, ...]]]:
         if place == 0 and line.words and len(line.numbers) < FIELDS:
             continue
         if line.words or len(line.numbers) != FIELDS:
-            raise Failed(f"{line.place}: no record of {FIELDS} numbers: {line.text.strip()}")
+            raise Failed(f"{line.place}: not a record of {FIELDS} numbers: {shown(line.text.strip())}")
         number, row, column, *values = line.numbers
         graph = GRAPHS.get(number)
         if graph is None:
             raise Failed(f"{line.place}: there is no base graph {number}")
         name = f"{line.place}: graph {number}, row {row} could not be read"
         if row >= graph.rows or not graph.has_column(row, column):
-            raise Failed(f"{name}: the base graph has no place at column {column} of it")
+            raise Failed(f"{name}: the base graph has no column {column} in this row")
         for index, (value, largest) in enumerate(zip(values, LARGEST)):
             if value >= largest:
                 raise Failed(f"{name}: value {value} of set {index} is not below {largest}")
         entries = tables.setdefault(number, {})
         if (row, column) in entries:
-            raise Failed(f"{name}: column {column} stands in it twice")
+            raise Failed(f"{name}: column {column} appears twice")
         entries[row, column] = (row, column, *values)
     return {number: [entries[place] for place in sorted(entries)] for number, entries in sorted(tables.items())}
 
 
-def judge(graph: Graph, entries: list[tuple[int, ...]]) -> None:
-    """Fails if the entries are not as many as those of the published table, or not in order, or lack a row or its
+def judge(graph: Graph, entries: list[tuple[int, ...]], named: str) -> None:
+    """Fails if the entries of these files are not as many as those of the published table, or not in order, or lack a row or its
     end."""
+    named = f"{named}: graph {graph.number}"
     by_row = {row: [column for it, column, *_ in entries if it == row] for row in range(graph.rows)}
     for row, columns in by_row.items():
         if columns != sorted(set(columns)):
-            raise Failed(f"graph {graph.number}, row {row} could not be read: its columns do not ascend: {columns}")
+            raise Failed(f"{named}, row {row} could not be read: its columns do not ascend: {shown(columns)}")
         if graph.last_column(row) not in columns:
-            raise Failed(f"graph {graph.number}, row {row} lacks its last entry, at column {graph.last_column(row)}")
+            raise Failed(f"{named}, row {row} lacks its last entry, at column {graph.last_column(row)}")
     if len(entries) != graph.entries:
         counts = " ".join(str(len(columns)) for columns in by_row.values())
-        raise Failed(
-            f"graph {graph.number} has {len(entries)} entries, and {graph.table} has {graph.entries}; "
-            f"by row it has {counts}"
-        )
+        raise Failed(f"{named} has {len(entries)} entries, and {graph.table} has {graph.entries}; by row it has {counts}")
 
 
 def read(lines: list[Line], graph: int | None = None) -> dict[int, list[tuple[int, ...]]]:
@@ -167,5 +172,5 @@ def read(lines: list[Line], graph: int | None = None) -> dict[int, list[tuple[in
     else:
         tables = {number: read_part(GRAPHS[number], part) for number, part in parts_of(lines, graph).items()}
     for number, entries in tables.items():
-        judge(GRAPHS[number], entries)
+        judge(GRAPHS[number], entries, files_of(lines))
     return tables

@@ -13,6 +13,7 @@ import dataclasses
 import typing
 
 from linksim_tools.common.graphs import LARGEST
+from linksim_tools.common.message import shown
 from linksim_tools.common.program import Failed
 
 if typing.TYPE_CHECKING:
@@ -82,7 +83,7 @@ class Place:
         """The entry of these cells, if it suits the row."""
         for cell in (column, *values):
             if not isinstance(cell, int):
-                raise Refusal(self.row, f"{cell} is no number", 1)
+                raise Refusal(self.row, f"{shown(cell)} is no number", 1)
         if column <= self.column:
             raise Refusal(self.row, f"column {column} follows column {self.column}", 1)
         last = graph.last_column(self.row)
@@ -168,8 +169,8 @@ class Reading:
     half's entry. `stopped` is the line at which no way was left, and `refusal` what was wrong with it. A reading that has
     too many ways is `lost`, and its line need not be the wrong one."""
 
-    def __init__(self, graph: Graph, two: bool, placed: bool, alone: bool) -> None:
-        self.graph, self.two, self.placed, self.alone = graph, two, placed, alone
+    def __init__(self, graph: Graph, two: bool, placed: bool, alone: bool, files: str) -> None:
+        self.graph, self.two, self.placed, self.alone, self.files = graph, two, placed, alone, files
         self.stopped: Line | None = None
         self.lost = False
         self.refusal: Refusal | None = None
@@ -252,7 +253,7 @@ class Reading:
                 entries = before + found.entries()
                 if found.doubtful or places.setdefault(state.end, entries) != entries:
                     row = min(state.end.row, self.graph.rows) - 1
-                    raise Failed(f"graph {self.graph.number}: the text up to row {row} can be read in two ways")
+                    raise Failed(f"{self.files}: graph {self.graph.number}: the text up to row {row} can be read in two ways")
         return places
 
     def page(self, starts: dict[Place, list[Entry]], lines: list[Line]) -> dict[Place, list[Entry]]:

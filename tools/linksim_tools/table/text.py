@@ -149,7 +149,7 @@ def text_of_document(name: str, octets: bytes, inside: bool = False) -> str:
             return "\n".join(document_lines(xml.etree.ElementTree.fromstring(part_of(parts, "word/document.xml"))))
     except DAMAGED as error:
         said = "its parts lie too deep in one another" if isinstance(error, RecursionError) else str(error).strip("'\"")
-        raise Failed(f"{name} is no .docx document: {said or type(error).__name__}") from None
+        raise Failed(f"{name} is not a .docx document: {said or type(error).__name__}") from None
 
 
 def lines_of(name: str, octets: bytes) -> list[Line]:

@@ -8,7 +8,7 @@ import pathlib
 import re
 import typing
 
-from linksim_tools.common import explaining
+from linksim_tools.common import explanation, message
 from linksim_tools.common.program import Failed, plan_of
 
 # A block's digits are shown up to so many.
@@ -36,19 +36,19 @@ class Ended:
     def sentences(self) -> typing.Iterator[str]:
         """Why it was not delivered."""
         if self.outcome == "contradiction":
-            yield "Every position is fixed, and no block agrees with all that arrived: the link flipped a bit, or settings differ."
+            yield "All bits are known, but no block is consistent with them: the link flipped a bit, or the ends' settings differ."
         elif not self.received:
             yield "Nothing of it was received."
         for r in self.stuck:
             yield (
-                f"code block {r}: {self.below(r)} of its K' = {self.plan['kdash']} positions are not fixed. Of all {len(self.stuck[r])} "
-                "that are left in the codeword no parity row has exactly one: a stopping set."
+                f"code block {r}: {self.below(r)} of its K' = {self.plan['kdash']} bits are unknown. The {len(self.stuck[r])} unknown bits "
+                "of the codeword are a stopping set: no check row has exactly one of them."
             )
 
 
 def lines_of(program: pathlib.Path, command: str, words: dict[str, str], stdin: bytes, heads: tuple[str, ...]) -> list[str]:
     """The lines of a command's text that begin so; a refusal is a failure with its line."""
-    run = explaining.ran(program, command, words, stdin, heads)
+    run = explanation.ran(program, command, words, stdin, heads)
     if run.status:
         raise Failed(run.said.strip().splitlines()[0])
     return run.lines
@@ -90,7 +90,7 @@ def outcome_of(program: pathlib.Path, words: dict[str, str], rate: int, stdin: b
     for line in (line for line in said if not line.startswith("refused ")):
         ended = ENDED.fullmatch(line)
         if not ended:
-            raise Failed(f"linksim run writes no such line: {line[:80]}")
+            raise Failed(f"linksim run writes no such line: {message.shown(line)}")
         process, block, outcome, received, _, count, _ = ended.groups()
         stuck = stuck_of(audited, int(count))
         found.append(Ended(

@@ -5,7 +5,6 @@ from __future__ import annotations
 import itertools
 import typing
 
-from linksim_tools.common import rate_matching
 from linksim_tools.common.program import Failed
 from linksim_tools.conform.case import scheduled
 from linksim_tools.conform.receiver.peeling import Peeler, Rows
@@ -13,7 +12,7 @@ from linksim_tools.curve.draws import drawn_places
 
 if typing.TYPE_CHECKING:
     from linksim_tools.conform.case import Row
-    from linksim_tools.outcome.ended import Ended, Outcome
+    from linksim_tools.outcome.endings import Ended, Outcome
 
 # What a position is, beside the number of the round that fixed it.
 STUCK, HEARD, FILLER = -3, -2, -1
@@ -21,6 +20,8 @@ NONE = "none"
 NAMES = "block", "rv", "g", "qm", "nl", "erase", "flip", "mask", "process", "fresh"
 
 Sent = typing.Dict[str, str]
+# A code rate in 2048ths and TBS_LBRM, or None.
+Link = typing.Tuple[int, typing.Optional[int]]
 
 
 def heard_places(erase: str, count: int) -> bytes:
@@ -57,19 +58,21 @@ def rounds_of(records: list[list[str]], outcome: Outcome) -> list[list[Sent]]:
     return rounds + [begun[process] for process in sorted(begun)]
 
 
-def hear(known: bytearray, it: Sent, r: int, plan: dict[str, int], lbrm: int | None) -> None:
+def hear(known: bytearray, it: Sent, r: int, plan: dict[str, int], link: Link) -> None:
     """Marks what a transmission lets hear of a code block: digits, a position each."""
+    import nr
+
     if it.get("mask") == NONE:
         return
-    total, symbol, layers = (int(it[name]) for name in ("g", "qm", "nl"))
-    lengths = rate_matching.lengths(total, symbol, layers, scheduled(it.get("mask", "all"), plan["c"]))
-    if not lengths.get(r):
+    total, version, symbol, layers = (int(it[name]) for name in ("g", "rv", "qm", "nl"))
+    tx = nr.Tx(g=total, rv=version, qm=symbol, nl=layers, blocks=scheduled(it.get("mask", "all"), plan["c"]))
+    lengths = nr.lengths(plan["a"], tx, rate2048=link[0])
+    if not lengths[r]:
         return
-    first = sum(length for other, length in lengths.items() if other < r)
+    first = sum(lengths[:r])
     places = heard_places(it["erase"], total)[first : first + lengths[r]]
     e = b"".join(places[column::symbol] for column in range(symbol))
-    length = rate_matching.buffer_length(plan, lbrm)
-    start = rate_matching.start(plan, length, int(it["rv"]))
+    length, start = nr.buffer(plan["a"], version, rate2048=link[0], lbrm=link[1])
     fillers = range(plan["kdash"] - 2 * plan["z"], plan["k"] - 2 * plan["z"])
     ring = [place for place in itertools.chain(range(start, length), range(start)) if place not in fillers]
     for place, heard in zip(itertools.cycle(ring), e):
@@ -78,14 +81,14 @@ def hear(known: bytearray, it: Sent, r: int, plan: dict[str, int], lbrm: int | N
 
 
 def states(
-    one: Ended, r: int, transmissions: list[Sent], rows: list[Row], lbrm: int | None
+    one: Ended, r: int, transmissions: list[Sent], rows: list[Row], link: Link
 ) -> list[int]:
     """What each position of an open code block is. A failure is raised if peeling does not end where `audit` does."""
     plan = one.plan
     z, columns = plan["z"], plan["n"] // plan["z"] + 2
     known = bytearray(b"0" * (columns * z))
     for it in transmissions:
-        hear(known, it, r, plan, lbrm)
+        hear(known, it, r, plan, link)
     found = [HEARD if it == ord("1") else STUCK for it in known]
     for position in range(plan["kdash"], plan["k"]):
         known[position], found[position] = ord("1"), FILLER
@@ -101,5 +104,5 @@ def states(
                 found[column * z + z - 1 - bit] = number
         before = list(peeler.unknown)
     if [position for position, state in enumerate(found) if state == STUCK] != one.stuck[r]:
-        raise Failed(f"block {one.block}, code block {r}: audit names other positions: this is a fault of the program or of the tool")
+        raise Failed(f"block {one.block}, code block {r}: audit names other positions: the program or the tool is wrong")
     return found

@@ -8,24 +8,23 @@ import typing
 
 from linksim_tools.common import files, toml_file
 from linksim_tools.common.graphs import GRAPHS
+from linksim_tools.common.message import MOST, shown
 from linksim_tools.common.program import Failed
 
 Lines = typing.List[str]
 # The values of a base graph, by row and column.
 Entries = typing.Dict[typing.Tuple[int, int], typing.List[int]]
 NAMES = ["graph", "row", "column", *(f"set {at}" for at in range(8))]
-# A field or a line is shown up to so many characters.
-WIDTH = 100
 csv.field_size_limit(1 << 30)
 
 
 def short(value: object) -> str:
     """A text, in quotes, or another value, as it is shown."""
     try:
-        shown, length = repr(value), len(str(value))
+        text, length = repr(value), len(str(value))
     except (RecursionError, ValueError):
         return f"a value of kind {type(value).__name__} that is too long or too deep to be shown"
-    return shown if len(shown) <= WIDTH else f"{shown[:WIDTH]}.. ({length} characters)"
+    return shown(text) if len(text) <= MOST else f"{shown(text)} ({length} characters)"
 
 
 class Record(typing.NamedTuple):
@@ -149,7 +148,7 @@ def core_lines(mine: Entries, rows: typing.Dict[int, typing.List[int]], first: i
 
 
 def ends_well(mine: Entries, columns: typing.List[int], row: int, first: int) -> bool:
-    """Whether a row from 4 on ends with 0 at its own column alone."""
+    """Whether a row from 4 on ends in a single zero shift, at its own column."""
     own = first + row
     return [column for column in columns if column >= first + 4] == [own] and not any(mine[row, own])
 

@@ -7,9 +7,9 @@ import subprocess
 import typing
 
 from linksim_tools.common import faults, files, graphs, near
-from linksim_tools.common.explained_files import (File, Record, blocks_of, numbers, of_blocks, of_schedule, of_settings,
+from linksim_tools.common.file_errors import (File, Record, blocks_of, numbers, of_blocks, of_schedule, of_settings,
                                                   of_table, rate_of)
-from linksim_tools.common.program import Failed, output_of, plan_of_block
+from linksim_tools.common.program import Failed, output_of
 
 Words = typing.Dict[str, str]
 # So many transmissions that are refused are told one by one.
@@ -146,8 +146,10 @@ def of_block(
     if rate is None:
         return lines
     if name == "Uneven":
-        return [*lines, *(f"  {size}" for size in near.near(program, rate, 4 * len(text)))]
-    lines.append(f"  rate2048 {rate}: base graph {plan_of_block(program, rate, text)['graph']}")
+        return [*lines, *(f"  {size}" for size in near.near(rate, 4 * len(text)))]
+    import nr
+
+    lines.append(f"  rate2048 {rate}: base graph {nr.plan(4 * len(text), rate2048=rate).graph}")
     if name == "Graph":
         try:
             lines += [
