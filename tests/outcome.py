@@ -25,8 +25,9 @@ DEBIAN = "/usr/bin/python3"
 
 
 def look_in(*folders: str) -> None:
-    """Has Python look for modules in these folders of tests/ and in tools/."""
-    sys.path[:0] = [*(str(ROOT / "tests" / name) for name in folders), str(ROOT / "tests"), str(ROOT / "tools")]
+    """Has Python look for modules in these folders of tests/, in tools/ and in c/."""
+    places = [*(f"tests/{name}" for name in folders), "tests", "tools", "c"]
+    sys.path[:0] = [str(ROOT / it) for it in places]
     sys.dont_write_bytecode = True
 
 

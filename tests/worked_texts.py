@@ -9,6 +9,7 @@ import pathlib
 from linksim_tools.common import faults
 
 ROOT = pathlib.Path(__file__).resolve().parent.parent
+VERSION = (ROOT / "VERSION").read_text().strip()
 
 
 def both_graphs() -> str:
@@ -165,15 +166,15 @@ total rounds 3 delivered 2 open 1 contradiction 0 codeblocks 3 failed 1
 }
 
 
-STATUSES = "Exit status: 0 done, 1 refused, 2 wrong usage\n"
+STATUSES = "Exit status: 0 on success, 1 on an error, 2 on wrong usage\n"
 ABOUT = {
-    "cut": "Attaches the CRC to each transport block and cuts it into code blocks",
-    "check": "Checks a table of shift values",
-    "send": "Encodes each transport block and writes the bits of each transmission of a schedule",
-    "run": "Sends and receives the transmissions of a schedule over a link that loses bits, and says what is delivered",
-    "audit": "Says of each code block after a schedule in how many steps it is fixed, or why it is stuck",
+    "cut": "Attach the CRC to each transport block and segment it into code blocks",
+    "check": "Check a table of shift values",
+    "send": "Encode each transport block and write the bits of each transmission of a schedule",
+    "run": "Send and receive the transmissions of a schedule over a link that loses bits, and show what is delivered",
+    "audit": "Show, for each code block, how many decoding steps recovered it or which stopping set blocks it",
 }
-RATE = "Twice the target code rate x 1024 of the MCS tables; 0.5 is 1024"
+RATE = "The target code rate in 2048ths, twice that of the MCS tables; 0.5 is 1024"
 SCHEDULES = {"send": "schedule.csv", "run": "losses.csv", "audit": "losses.csv"}
 
 
@@ -215,11 +216,11 @@ def long_help_of(command: str) -> str:
 HELP = {command: help_of(command) for command in ABOUT}
 LONG_HELP = {command: long_help_of(command) for command in ABOUT}
 PROGRAM_HELP = (
-    "The data coding chain of 5G NR (3GPP TS 38.212)\n"
-    "Without words it reads transport blocks from standard input, and at a terminal waits for them.\n\n"
+    "The data coding chain of 5G NR (3GPP TS 38.212): CRC, segmentation, LDPC, rate matching, HARQ\n"
+    "With no arguments, linksim reads transport blocks from standard input.\n\n"
     "Usage: linksim <COMMAND>\n\nCommands:\n"
     + "".join(f"  {command:<5}  {about}\n" for command, about in ABOUT.items())
     + "  help   Print this message or the help of the given subcommand(s)\n\n"
     "Options:\n  -h, --help     Print help\n  -V, --version  Print version\n\n"
-    "No words at all ask for 'linksim cut --rate 2048 --blocks -'.\n\n" + STATUSES
+    "With no arguments, linksim does what 'linksim cut --rate 2048 --blocks -' does.\n\n" + STATUSES
 )

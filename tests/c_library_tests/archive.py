@@ -1,4 +1,5 @@
-"""The archive of nr_c, crates/nr_c/out/libnr_c.a, made if it is missing or older than a source.
+"""The archive of nr_c, crates/nr_c/out/libnr_c.a, made if it is missing or older than a source; and beside it, of the same sources,
+the one for processors of level x86-64-v3.
 
 `rt lib` makes it over what `rt lib` and `rt check` keep in the crates' folders out/. `rt ci` keeps nothing there: in a
 new clone `rt lib` would prove the crates below nr_c once more. But each of them then has the library that `rt ci` has
@@ -13,6 +14,8 @@ from crate_list import ROOT, crates_and_below, crates_and_direct, newest_source
 
 CRATES = ROOT / "crates"
 ARCHIVE = CRATES / "nr_c" / "out" / "libnr_c.a"
+LEVEL = "x86-64-v3"
+FASTER = ARCHIVE.with_name(f"libnr_c-{LEVEL}.a")
 
 
 def kit() -> pathlib.Path:
@@ -39,27 +42,30 @@ def is_of_gate(crates: list[str], written: float) -> bool:
     return is_new and not any((folder / "stamp").exists() for folder, _ in places)
 
 
-def build_over_gate(crates: list[str], named: list[str]) -> None:
-    """Builds the archive over the libraries that `rt ci` left."""
+def build_over(crates: list[str], named: list[str], archive: pathlib.Path, *level: str) -> None:
+    """Builds an archive over the libraries that `rt ci` or `rt lib` left."""
     of_kit = kit()
     words: list[str | pathlib.Path] = [of_kit / "bin" / "rattle", "build", "--crate-name", "nr_c", "src/lib.rt", "--crate-type", "staticlib"]
     words += ["-L", f"dependency={of_kit / 'rlibs'}", *[it for name in crates for it in ("-L", f"dependency={library(name)[0]}")]]
     for name in ["std", *named]:
         words += ["--extern", f"{name}={library(name)[1] if name in crates else of_kit / 'rlibs' / f'{name}.rlib'}"]
     words += ["--antt-project", of_kit / "rattle" / "logic" / "antt-project.json", "--logic-built", of_kit / "logic_built"]
-    words += ["--toolchain", of_kit / "toolchain", "--backend", "llvm", "--links", "nr_c=", "--jobs", "2", "-o", ARCHIVE]
+    words += ["--toolchain", of_kit / "toolchain", "--backend", "llvm", "--links", "nr_c=", "--jobs", "2", *level, "-o", archive]
     ARCHIVE.parent.mkdir(exist_ok=True)
     subprocess.run(words, cwd=CRATES / "nr_c", stdin=subprocess.DEVNULL, check=True)
 
 
 def made() -> pathlib.Path:
-    """The archive, made anew if it is missing or older than a source."""
+    """The archive. It is made if it is missing or older than a source. So is the one for the higher level, where the libraries of the
+    crates below are at hand, as they are after `rt ci` and `rt lib`."""
     crates, named = below()
     written = newest_source(["nr_c", *crates]).stat().st_mtime
-    if ARCHIVE.exists() and ARCHIVE.stat().st_mtime > written:
-        return ARCHIVE
-    if is_of_gate(crates, written):
-        build_over_gate(crates, named)
-    else:
-        subprocess.run(["rt", "lib"], cwd=CRATES / "nr_c", stdin=subprocess.DEVNULL, check=True)
+    if not ARCHIVE.exists() or ARCHIVE.stat().st_mtime <= written:
+        if is_of_gate(crates, written):
+            build_over(crates, named, ARCHIVE)
+        else:
+            subprocess.run(["rt", "lib"], cwd=CRATES / "nr_c", stdin=subprocess.DEVNULL, check=True)
+    at_hand = all(library(name)[1].exists() for name in crates)
+    if at_hand and (not FASTER.exists() or FASTER.stat().st_mtime < ARCHIVE.stat().st_mtime):
+        build_over(crates, named, FASTER, "--cpu", LEVEL)
     return ARCHIVE

@@ -22,12 +22,13 @@ import archive as making
 
 ROOT = pathlib.Path(__file__).resolve().parent.parent.parent
 C = ROOT / "c"
+PACKAGES = [str(C), str(ROOT / "tools")]
 HERE = pathlib.Path(__file__).resolve().parent
 PRACTICE, DRAWN = ROOT / "examples" / "practice.csv", ROOT / "examples" / "drawn.csv"
 SECONDS = 600
 
 FOLDER = pathlib.Path(tempfile.mkdtemp(prefix="nr-c-"))
-LIBRARY, STATIC = FOLDER / "libnr.so.2", FOLDER / "libnr.a"
+LIBRARY, STATIC = FOLDER / "libnr.so.3", FOLDER / "libnr.a"
 
 _archive: pathlib.Path
 _program: pathlib.Path
@@ -45,12 +46,11 @@ def use(archive: pathlib.Path | None, program: pathlib.Path) -> None:
         done(["ar", "x", path], objects)
     done([compiler(), "-O2", "-fPIC", "-c", C / "fault_name.c", "-o", objects / "fault_name.o"])
     members = sorted(objects.glob("*.o"))
-    # as c/Makefile does
     done(["ld", "-r", "-o", FOLDER / "nr.o", *members])
     done(["objcopy", "--wildcard", "--keep-global-symbol=nr_*", FOLDER / "nr.o"])
     done(["ar", "rcs", STATIC, FOLDER / "nr.o"])
-    script = f"-Wl,--version-script,{C / 'nr.map'}"
-    done([compiler(), "-shared", "-Wl,-soname,libnr.so.2", script, "-Wl,--no-undefined", "-o", LIBRARY, *members])
+    linked = ["-Wl,-soname,libnr.so.3", f"-Wl,--version-script,{C / 'nr.map'}", "-Wl,--no-undefined"]
+    done([compiler(), "-shared", *linked, "-o", LIBRARY, *members])
     _calls = ctypes.CDLL(str(LIBRARY))
 
 
@@ -123,14 +123,14 @@ def module() -> types.ModuleType:
     global _module
     if _module is None:
         os.environ["NR_LIBRARY"] = str(LIBRARY)
-        sys.path.insert(0, str(C))
+        sys.path[:0] = PACKAGES
         _module = importlib.import_module("nr")
     return _module
 
 
 def for_python() -> dict[str, str]:
     """The environment of a Python program over the library."""
-    found = os.pathsep.join(filter(None, [str(C), os.environ.get("PYTHONPATH")]))
+    found = os.pathsep.join(filter(None, [*PACKAGES, os.environ.get("PYTHONPATH")]))
     return {**os.environ, "NR_LIBRARY": str(LIBRARY), "PYTHONPATH": found, "PYTHONDONTWRITEBYTECODE": "1"}
 
 

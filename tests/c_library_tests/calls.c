@@ -18,9 +18,9 @@ static void tables(void) {
     NrReport report = {7, 7, 7, 7};
     CHECK(nr_table_check(text, text_len, &report) == NR_OK);
     CHECK(report.one == 0 && report.two == 105 && report.place == 0 && report.reserved == 0);
-    CHECK(nr_table_check((const uint8_t *)"1,2\n", 4, &report) == NR_FIELDS);
+    CHECK(nr_table_check((const uint8_t *)"1,2\n", 4, &report) == NR_ERR_FIELDS);
     CHECK(report.one == 0 && report.two == 0 && report.place == 0);
-    CHECK(nr_table_check(text, text_len - 3, &report) == NR_CSV);
+    CHECK(nr_table_check(text, text_len - 3, &report) == NR_ERR_CSV);
     CHECK(report.place == 105);
 }
 
@@ -32,10 +32,10 @@ static void entries(void) {
     NrTx tx = transmission(0, 24, 1);
     size_t count = 7;
     CHECK(sizeof(NrEntry) == 22);
-    CHECK(nr_table_entries((const uint8_t *)"1,2\n", 4, room, 105, &count) == NR_FIELDS);
+    CHECK(nr_table_entries((const uint8_t *)"1,2\n", 4, room, 105, &count) == NR_ERR_FIELDS);
     CHECK(count == 7 && is_filled(room, 106 * sizeof(NrEntry)));
-    CHECK(nr_table_entries(text, text_len, room, 104, &count) == NR_ROOM && count == 105);
-    CHECK(nr_table_entries(text, text_len, room, 106, &count) == NR_ROOM && count == 105);
+    CHECK(nr_table_entries(text, text_len, room, 104, &count) == NR_ERR_ROOM && count == 105);
+    CHECK(nr_table_entries(text, text_len, room, 106, &count) == NR_ERR_ROOM && count == 105);
     CHECK(is_filled(room, 106 * sizeof(NrEntry)));
     CHECK(nr_table_entries(text, text_len, room, 105, &count) == NR_OK && count == 105);
     CHECK(is_filled(room + 105, sizeof(NrEntry)));
@@ -45,7 +45,7 @@ static void entries(void) {
     room[3] = room[4];
     room[4] = swapped;
     memset(bits, 0xA5, sizeof bits);
-    CHECK(nr_send(room, 105, &settings, (const uint8_t *)"\1", 1, &tx, bits, 24) == NR_ENTRIES && is_filled(bits, 24));
+    CHECK(nr_send(room, 105, &settings, (const uint8_t *)"\1", 1, &tx, bits, 24) == NR_ERR_ENTRIES && is_filled(bits, 24));
     free(room);
 }
 
@@ -53,8 +53,8 @@ static void plans(void) {
     static const NrPlan wanted = {2, 24, 0, 1, 24, 6, 4, 0, 40, 200, {0, 0}};
     NrPlan plan;
     memset(&plan, 0xA5, sizeof plan);
-    CHECK(nr_plan(2049, 8, &plan) == NR_RATE_RANGE);
-    CHECK(nr_plan(2048, 9, &plan) == NR_SIZE);
+    CHECK(nr_plan(2049, 8, &plan) == NR_ERR_RATE_RANGE);
+    CHECK(nr_plan(2048, 9, &plan) == NR_ERR_SIZE);
     CHECK(is_filled(&plan, sizeof plan));
     CHECK(nr_plan(2048, 8, &plan) == NR_OK);
     CHECK(!memcmp(&plan, &wanted, sizeof plan));
@@ -62,13 +62,13 @@ static void plans(void) {
 
 static void parities(void) {
     uint32_t parity = 7;
-    CHECK(nr_crc(3, (const uint8_t *)"", 0, &parity) == NR_POLY);
+    CHECK(nr_crc(3, (const uint8_t *)"", 0, &parity) == NR_ERR_POLY);
     CHECK(parity == 7);
-    CHECK(nr_crc(NR_CRC16, (const uint8_t *)"\1", 1, &parity) == NR_OK);
+    CHECK(nr_crc(NR_POLY_CRC16, (const uint8_t *)"\1", 1, &parity) == NR_OK);
     CHECK(parity == 0x1021);
-    CHECK(nr_crc(NR_CRC24A, (const uint8_t *)"\1", 1, &parity) == NR_OK);
+    CHECK(nr_crc(NR_POLY_CRC24A, (const uint8_t *)"\1", 1, &parity) == NR_OK);
     CHECK(parity == 0x864CFB);
-    CHECK(nr_crc(NR_CRC24B, (const uint8_t *)"\1", 1, &parity) == NR_OK);
+    CHECK(nr_crc(NR_POLY_CRC24B, (const uint8_t *)"\1", 1, &parity) == NR_OK);
     CHECK(parity == 0x800063);
 }
 
@@ -77,16 +77,16 @@ static void selecting(const uint8_t *d) {
     static const uint8_t sent[] = {0x00, 0x0a, 0x51};
     uint8_t wanted[24], selected[24], spread[24];
     memset(spread, 0xA5, sizeof spread);
-    CHECK(nr_select(&settings, 8, 4, d, 200, spread, 24) == NR_RV && nr_interleave(3, d, 24, spread, 24) == NR_ORDER);
+    CHECK(nr_select(&settings, 8, 4, d, 200, spread, 24) == NR_ERR_RV && nr_interleave(3, d, 24, spread, 24) == NR_ERR_ORDER);
     CHECK(is_filled(spread, sizeof spread));
     CHECK(nr_select(&settings, 8, 0, d, 200, selected, 24) == NR_OK && !memcmp(selected, d, 16) && !memcmp(selected + 16, d + 32, 8));
     CHECK(nr_interleave(4, selected, 24, spread, 24) == NR_OK);
     bits_of(sent, sizeof sent, wanted);
     CHECK(!memcmp(spread, wanted, 24));
     memset(selected, 0xA5, sizeof selected);
-    CHECK(nr_match(&numbers, d, 199, selected, 24) == NR_LENGTH && is_filled(selected, sizeof selected));
+    CHECK(nr_match(&numbers, d, 199, selected, 24) == NR_ERR_LENGTH && is_filled(selected, sizeof selected));
     CHECK(nr_match(&numbers, d, 200, selected, 24) == NR_OK && !memcmp(selected, wanted, 24));
-    CHECK(nr_erase(42, 0xa15c02b8, spread, 1) == NR_OK && spread[0] == NR_ERASED && spread[1] == wanted[1]);
+    CHECK(nr_erase(42, 0xa15c02b8, spread, 1) == NR_OK && spread[0] == NR_BIT_ERASED && spread[1] == wanted[1]);
 }
 
 /* The block 01 with its CRC16, 011021, and what is sent of its code block. E = G, as it is the only one. All of d is sent from
@@ -98,28 +98,28 @@ static void coding(void) {
     const uint8_t block[] = {1};
     uint8_t bits[24], wanted[24], code[40], *out = (uint8_t *)filled(200), *encoded = (uint8_t *)filled(200);
     uint32_t length = 7;
-    CHECK(nr_lengths(2048, 8, &tx, &length, 0) == NR_ROOM && length == 7);
+    CHECK(nr_lengths(2048, 8, &tx, &length, 0) == NR_ERR_ROOM && length == 7);
     CHECK(nr_lengths(2048, 8, &tx, &length, 1) == NR_OK && length == 184);
-    CHECK(nr_buffer(&settings, 8, 4, &buffer) == NR_RV && buffer.ncb == 7 && buffer.k0 == 7);
+    CHECK(nr_buffer(&settings, 8, 4, &buffer) == NR_ERR_RV && buffer.ncb == 7 && buffer.k0 == 7);
     CHECK(nr_buffer(&settings, 8, 3, &buffer) == NR_OK && buffer.ncb == 200 && buffer.k0 == 172);
     CHECK(buffer.reserved[0] == 0 && buffer.reserved[1] == 0);
     bits_of(attached, sizeof attached, bits);
     memset(code, 0xA5, sizeof code);
-    CHECK(nr_cut(2048, block, 1, 1, code, 24) == NR_CODE_BLOCK && nr_cut(2048, block, 1, 0, code, 23) == NR_ROOM);
+    CHECK(nr_cut(2048, block, 1, 1, code, 24) == NR_ERR_CODE_BLOCK && nr_cut(2048, block, 1, 0, code, 23) == NR_ERR_ROOM);
     CHECK(is_filled(code, sizeof code));
     CHECK(nr_cut(2048, block, 1, 0, code, 24) == NR_OK && !memcmp(code, bits, 24) && is_filled(code + 24, 16));
     bits[23] = 2;
-    CHECK(nr_codeword(table, table_len, 2048, 8, bits, 24, out, 200) == NR_BIT && is_filled(out, 200));
+    CHECK(nr_codeword(table, table_len, 2048, 8, bits, 24, out, 200) == NR_ERR_BIT && is_filled(out, 200));
     bits[23] = 1;
     CHECK(nr_codeword(table, table_len, 2048, 8, bits, 24, out, 200) == NR_OK);
     bits_of(first, sizeof first, wanted);
     CHECK(!memcmp(out, wanted, 16));
-    for (int filler = 16; filler < 32; filler++) CHECK(out[filler] == NR_FILLER);
+    for (int filler = 16; filler < 32; filler++) CHECK(out[filler] == NR_BIT_FILLER);
     bits_of(last, sizeof last, wanted);
     CHECK(!memcmp(out + 172, wanted, 24));
     selecting(out);
-    memset(code + 24, NR_FILLER, 16);
-    CHECK(nr_encode(table, table_len, 2, 3, code, 30, encoded, 150) == NR_LIFTING && is_filled(encoded, 200));
+    memset(code + 24, NR_BIT_FILLER, 16);
+    CHECK(nr_encode(table, table_len, 2, 3, code, 30, encoded, 150) == NR_ERR_LIFTING && is_filled(encoded, 200));
     CHECK(nr_encode(table, table_len, 2, 4, code, 40, encoded, 200) == NR_OK && !memcmp(encoded, out, 200));
     free(encoded);
     free(out);
@@ -132,9 +132,9 @@ static void sending(void) {
     NrTx tx = transmission(0, 24, 4);
     uint8_t wanted[24], *out = (uint8_t *)filled(24);
     bits_of(sent, sizeof sent, wanted);
-    CHECK(nr_send(table, table_len, &settings, block, 1, &tx, out, 23) == NR_ROOM);
+    CHECK(nr_send(table, table_len, &settings, block, 1, &tx, out, 23) == NR_ERR_ROOM);
     tx.rv = 4;
-    CHECK(nr_send(table, table_len, &settings, block, 1, &tx, out, 24) == NR_RV);
+    CHECK(nr_send(table, table_len, &settings, block, 1, &tx, out, 24) == NR_ERR_RV);
     CHECK(is_filled(out, 24));
     tx.rv = 0;
     CHECK(nr_send(table, table_len, &settings, block, 1, &tx, out, 24) == NR_OK);
@@ -149,8 +149,10 @@ static void simulating(void) {
     NrTx txs[2];
     uint32_t delivered = 7, left[] = {7, 7}, erased[] = {7, 7};
     txs[0] = txs[1] = transmission(0, 184, 1);
-    CHECK(nr_simulate(table, table_len, &settings, 8, txs, 2, thresholds, 2, seeds, 2, &delivered, 1, left, 2, erased, 1) == NR_ROOM);
-    CHECK(nr_simulate(table, table_len, &settings, 8, txs, 2, thresholds, 1, seeds, 2, &delivered, 1, left, 2, erased, 2) == NR_LENGTH);
+    CHECK(nr_simulate(table, table_len, &settings, 8, txs, 2, thresholds, 2, seeds, 2, &delivered, 1, left, 2, erased, 1) ==
+          NR_ERR_ROOM);
+    CHECK(nr_simulate(table, table_len, &settings, 8, txs, 2, thresholds, 1, seeds, 2, &delivered, 1, left, 2, erased, 2) ==
+          NR_ERR_LENGTH);
     CHECK(delivered == 7 && left[0] == 7 && erased[1] == 7);
     CHECK(nr_simulate(table, table_len, &settings, 8, txs, 2, thresholds, 2, seeds, 2, &delivered, 1, left, 2, erased, 2) == NR_OK);
     CHECK(delivered == 2 && left[0] == 24 && left[1] == 0 && erased[0] == 184 && erased[1] == 0);
@@ -173,19 +175,19 @@ static void receiving(void) {
     txs[1] = transmission(0, 28, 1);
     bits_of(sent, sizeof sent, bits);
     memcpy(heard, bits, 24);
-    memset(heard + 24, NR_ERASED, 24);
+    memset(heard + 24, NR_BIT_ERASED, 24);
     memcpy(heard + 48, bits + 48, 4);
-    CHECK(receive(txs, 2, heard, 51, outcomes, 2, left, block) == NR_LENGTH);
-    CHECK(receive(txs, 2, heard, 52, outcomes, 1, left, block) == NR_ROOM);
+    CHECK(receive(txs, 2, heard, 51, outcomes, 2, left, block) == NR_ERR_LENGTH);
+    CHECK(receive(txs, 2, heard, 52, outcomes, 1, left, block) == NR_ERR_ROOM);
     CHECK(is_filled(outcomes, 2 * sizeof *outcomes) && is_filled(left, sizeof *left) && is_filled(block, 1));
     CHECK(receive(txs, 1, heard, 24, outcomes, 1, left, block) == NR_OK);
-    CHECK(outcomes[0] == NR_OPEN && is_filled(outcomes + 1, sizeof *outcomes) && *left == 4 && is_filled(block, 1));
+    CHECK(outcomes[0] == NR_OUTCOME_OPEN && is_filled(outcomes + 1, sizeof *outcomes) && *left == 4 && is_filled(block, 1));
     CHECK(receive(txs, 2, heard, 52, outcomes, 2, left, block) == NR_OK);
-    CHECK(outcomes[0] == NR_OPEN && outcomes[1] == NR_DELIVERED && *left == 0 && block[0] == 1);
+    CHECK(outcomes[0] == NR_OUTCOME_OPEN && outcomes[1] == NR_OUTCOME_DELIVERED && *left == 0 && block[0] == 1);
     heard[0] = !heard[0];
     block[0] = 0xA5;
     CHECK(receive(txs, 2, heard, 52, outcomes, 2, left, block) == NR_OK);
-    CHECK(outcomes[0] == NR_OPEN && outcomes[1] == NR_CONTRADICTION && *left == 0 && is_filled(block, 1));
+    CHECK(outcomes[0] == NR_OUTCOME_OPEN && outcomes[1] == NR_OUTCOME_CONTRADICTION && *left == 0 && is_filled(block, 1));
     free(left);
     free(outcomes);
     free(block);
@@ -207,25 +209,26 @@ static void taking_up(void) {
     uint8_t *block = (uint8_t *)filled(1);
     uint32_t *outcome = (uint32_t *)filled(sizeof(uint32_t)), *left = (uint32_t *)filled(sizeof(uint32_t));
     bits_of(sent, sizeof sent, heard);
-    CHECK(nr_receiver_size(2048, 7, &octets) == NR_SIZE && octets == 7);
+    CHECK(nr_receiver_size(2048, 7, &octets) == NR_ERR_SIZE && octets == 7);
     CHECK(nr_receiver_size(2048, 8, &octets) == NR_OK && octets == 241);
-    CHECK(nr_receiver_start(table, table_len, &settings, 8, NULL, 0) == NR_ROOM);
-    CHECK(take(room, &tx, heard, outcome, left, block) == NR_STATE && is_filled(room, 241));
+    CHECK(nr_receiver_start(table, table_len, &settings, 8, NULL, 0) == NR_ERR_ROOM);
+    CHECK(take(room, &tx, heard, outcome, left, block) == NR_ERR_STATE && is_filled(room, 241));
     CHECK(nr_receiver_start(table, table_len, &settings, 8, room, 241) == NR_OK);
-    CHECK(take(room, &tx, heard, outcome, left, block) == NR_OK && *outcome == NR_OPEN && *left == 4 && is_filled(block, 1));
+    CHECK(take(room, &tx, heard, outcome, left, block) == NR_OK && *outcome == NR_OUTCOME_OPEN && *left == 4);
+    CHECK(is_filled(block, 1));
     memcpy(before, room, 241);
     tx.rv = 4;
-    CHECK(take(room, &tx, heard, outcome, left, block) == NR_RV);
+    CHECK(take(room, &tx, heard, outcome, left, block) == NR_ERR_RV);
     tx.rv = 0;
-    CHECK(nr_receiver_take(table, table_len, &settings, 8, room, 241, &tx, NULL, 0, outcome, left, 1, block, 1) == NR_LENGTH);
-    CHECK(nr_receiver_take(table, table_len, &settings, 8, room, 241, &tx, heard, 24, outcome, NULL, 0, block, 1) == NR_ROOM);
-    CHECK(*outcome == NR_OPEN && *left == 4 && is_filled(block, 1) && !memcmp(room, before, 241));
+    CHECK(nr_receiver_take(table, table_len, &settings, 8, room, 241, &tx, NULL, 0, outcome, left, 1, block, 1) == NR_ERR_LENGTH);
+    CHECK(nr_receiver_take(table, table_len, &settings, 8, room, 241, &tx, heard, 24, outcome, NULL, 0, block, 1) == NR_ERR_ROOM);
+    CHECK(*outcome == NR_OUTCOME_OPEN && *left == 4 && is_filled(block, 1) && !memcmp(room, before, 241));
     tx = transmission(0, 28, 1);
     free(heard);
     heard = (uint8_t *)filled(28);
-    memset(heard, NR_ERASED, 24);
+    memset(heard, NR_BIT_ERASED, 24);
     memcpy(heard + 24, "\0\0\1\1", 4);
-    CHECK(take(room, &tx, heard, outcome, left, block) == NR_OK && *outcome == NR_DELIVERED && *left == 0 && *block == 1);
+    CHECK(take(room, &tx, heard, outcome, left, block) == NR_OK && *outcome == NR_OUTCOME_DELIVERED && *left == 0 && *block == 1);
     free(heard);
     free(room);
     free(before);
@@ -242,25 +245,25 @@ static void no_items(void) {
     size_t count = 7;
     uint32_t parity = 7;
     uint8_t *out = (uint8_t *)filled(200);
-    CHECK(nr_table_check(NULL, 0, &report) == NR_EMPTY && report.two == 0);
-    CHECK(nr_table_entries(NULL, 0, NULL, 0, &count) == NR_EMPTY && count == 7);
-    CHECK(nr_table_entries(text, text_len, NULL, 0, &count) == NR_ROOM && count == 105);
-    CHECK(nr_crc(NR_CRC24A, NULL, 0, &parity) == NR_OK && parity == 0);
-    CHECK(nr_lengths(2048, 8, &tx, NULL, 0) == NR_ROOM);
-    CHECK(nr_codeword(NULL, 0, 2048, 8, zeros, 24, out, 200) == NR_EMPTY);
-    CHECK(nr_codeword(table, table_len, 2048, 8, NULL, 0, out, 200) == NR_LENGTH);
-    CHECK(nr_codeword(table, table_len, 2048, 8, zeros, 24, NULL, 0) == NR_ROOM);
-    CHECK(nr_send(NULL, 0, &settings, block, 1, &tx, out, 24) == NR_EMPTY);
-    CHECK(nr_send(table, table_len, &settings, NULL, 0, &tx, out, 24) == NR_SIZE);
-    CHECK(nr_send(table, table_len, &settings, block, 1, &tx, NULL, 0) == NR_ROOM);
-    CHECK(nr_cut(2048, NULL, 0, 0, out, 24) == NR_SIZE);
-    CHECK(nr_cut(2048, block, 1, 0, NULL, 0) == NR_ROOM);
-    CHECK(nr_select(&settings, 8, 0, NULL, 0, out, 24) == NR_LENGTH);
-    CHECK(nr_interleave(2, NULL, 0, out, 24) == NR_ROOM && nr_interleave(2, NULL, 0, NULL, 0) == NR_OK);
-    CHECK(nr_match(&numbers, NULL, 0, out, 24) == NR_LENGTH);
+    CHECK(nr_table_check(NULL, 0, &report) == NR_ERR_EMPTY && report.two == 0);
+    CHECK(nr_table_entries(NULL, 0, NULL, 0, &count) == NR_ERR_EMPTY && count == 7);
+    CHECK(nr_table_entries(text, text_len, NULL, 0, &count) == NR_ERR_ROOM && count == 105);
+    CHECK(nr_crc(NR_POLY_CRC24A, NULL, 0, &parity) == NR_OK && parity == 0);
+    CHECK(nr_lengths(2048, 8, &tx, NULL, 0) == NR_ERR_ROOM);
+    CHECK(nr_codeword(NULL, 0, 2048, 8, zeros, 24, out, 200) == NR_ERR_EMPTY);
+    CHECK(nr_codeword(table, table_len, 2048, 8, NULL, 0, out, 200) == NR_ERR_LENGTH);
+    CHECK(nr_codeword(table, table_len, 2048, 8, zeros, 24, NULL, 0) == NR_ERR_ROOM);
+    CHECK(nr_send(NULL, 0, &settings, block, 1, &tx, out, 24) == NR_ERR_EMPTY);
+    CHECK(nr_send(table, table_len, &settings, NULL, 0, &tx, out, 24) == NR_ERR_SIZE);
+    CHECK(nr_send(table, table_len, &settings, block, 1, &tx, NULL, 0) == NR_ERR_ROOM);
+    CHECK(nr_cut(2048, NULL, 0, 0, out, 24) == NR_ERR_SIZE);
+    CHECK(nr_cut(2048, block, 1, 0, NULL, 0) == NR_ERR_ROOM);
+    CHECK(nr_select(&settings, 8, 0, NULL, 0, out, 24) == NR_ERR_LENGTH);
+    CHECK(nr_interleave(2, NULL, 0, out, 24) == NR_ERR_ROOM && nr_interleave(2, NULL, 0, NULL, 0) == NR_OK);
+    CHECK(nr_match(&numbers, NULL, 0, out, 24) == NR_ERR_LENGTH);
     CHECK(nr_erase(1, 0xFFFFFFFF, NULL, 0) == NR_OK);
-    CHECK(nr_encode(NULL, 0, 2, 4, zeros, 24, out, 200) == NR_EMPTY);
-    CHECK(nr_encode(table, table_len, 2, 4, NULL, 0, out, 200) == NR_LENGTH);
+    CHECK(nr_encode(NULL, 0, 2, 4, zeros, 24, out, 200) == NR_ERR_EMPTY);
+    CHECK(nr_encode(table, table_len, 2, 4, NULL, 0, out, 200) == NR_ERR_LENGTH);
     CHECK(is_filled(out, 200));
     free(out);
 }
@@ -271,16 +274,16 @@ static void nothing_received(void) {
     NrTx tx = transmission(0, 4, 1);
     uint32_t outcome = 7, left = 7;
     uint8_t block = 7;
-    CHECK(nr_receive(NULL, 0, &settings, 8, &tx, 1, erased, 4, &outcome, 1, &left, 1, NULL, 0) == NR_EMPTY);
-    CHECK(nr_receive(table, table_len, &settings, 8, NULL, 0, erased, 1, NULL, 0, &left, 1, &block, 1) == NR_LENGTH);
-    CHECK(nr_receive(table, table_len, &settings, 8, &tx, 1, NULL, 0, &outcome, 1, &left, 1, &block, 1) == NR_LENGTH);
-    CHECK(nr_receive(table, table_len, &settings, 8, &tx, 1, erased, 4, NULL, 0, &left, 1, &block, 1) == NR_ROOM);
-    CHECK(nr_receive(table, table_len, &settings, 8, &tx, 1, erased, 4, &outcome, 1, NULL, 0, &block, 1) == NR_ROOM);
-    CHECK(nr_receive(table, table_len, &settings, 8, &tx, 1, erased, 4, &outcome, 1, &left, 1, NULL, 0) == NR_ROOM);
+    CHECK(nr_receive(NULL, 0, &settings, 8, &tx, 1, erased, 4, &outcome, 1, &left, 1, NULL, 0) == NR_ERR_EMPTY);
+    CHECK(nr_receive(table, table_len, &settings, 8, NULL, 0, erased, 1, NULL, 0, &left, 1, &block, 1) == NR_ERR_LENGTH);
+    CHECK(nr_receive(table, table_len, &settings, 8, &tx, 1, NULL, 0, &outcome, 1, &left, 1, &block, 1) == NR_ERR_LENGTH);
+    CHECK(nr_receive(table, table_len, &settings, 8, &tx, 1, erased, 4, NULL, 0, &left, 1, &block, 1) == NR_ERR_ROOM);
+    CHECK(nr_receive(table, table_len, &settings, 8, &tx, 1, erased, 4, &outcome, 1, NULL, 0, &block, 1) == NR_ERR_ROOM);
+    CHECK(nr_receive(table, table_len, &settings, 8, &tx, 1, erased, 4, &outcome, 1, &left, 1, NULL, 0) == NR_ERR_ROOM);
     tx.g = 32;
-    CHECK(nr_receive(table, table_len, &settings, 8, &tx, 1, zeros, 32, &outcome, 1, &left, 1, NULL, 0) == NR_ROOM);
+    CHECK(nr_receive(table, table_len, &settings, 8, &tx, 1, zeros, 32, &outcome, 1, &left, 1, NULL, 0) == NR_ERR_ROOM);
     CHECK(outcome == 7 && left == 7);
-    CHECK(nr_receive(table, table_len, &settings, 8, NULL, 0, NULL, 0, NULL, 0, &left, 1, NULL, 0) == NR_ROOM && left == 7);
+    CHECK(nr_receive(table, table_len, &settings, 8, NULL, 0, NULL, 0, NULL, 0, &left, 1, NULL, 0) == NR_ERR_ROOM && left == 7);
     CHECK(nr_receive(table, table_len, &settings, 8, NULL, 0, NULL, 0, NULL, 0, &left, 1, &block, 1) == NR_OK && left == 24);
     CHECK(block == 7);
 }
@@ -291,16 +294,16 @@ static void left_out(void) {
     uint8_t d[200] = {0}, room[241] = {0}, block = 7;
     NrTx tx = transmission(0, 24, 1);
     uint32_t outcome = 7, left = 7;
-    memset(d + 16, NR_FILLER, 16);
+    memset(d + 16, NR_BIT_FILLER, 16);
     CHECK(nr_select(&settings, 8, 0, d, 200, NULL, 0) == NR_OK && nr_match(&numbers, d, 200, NULL, 0) == NR_OK);
-    CHECK(nr_encode(table, table_len, 2, 4, bits, 40, NULL, 0) == NR_ROOM);
-    CHECK(nr_receiver_start(NULL, 0, &settings, 8, room, 241) == NR_EMPTY);
-    CHECK(nr_receiver_take(NULL, 0, &settings, 8, room, 241, &tx, bits, 24, &outcome, &left, 1, &block, 1) == NR_EMPTY);
-    CHECK(nr_receiver_take(table, table_len, &settings, 8, NULL, 0, &tx, bits, 24, &outcome, &left, 1, &block, 1) == NR_ROOM);
-    CHECK(nr_receiver_take(table, table_len, &settings, 8, room, 241, &tx, bits, 24, &outcome, &left, 1, NULL, 0) == NR_ROOM);
-    CHECK(nr_simulate(NULL, 0, &settings, 8, NULL, 0, NULL, 0, NULL, 0, NULL, 0, NULL, 0, NULL, 0) == NR_EMPTY);
-    CHECK(nr_send_many(NULL, 0, &settings, 8, &tx, 1, 0, NULL, 0, NULL, 0) == NR_EMPTY);
-    CHECK(nr_receive_many(NULL, 0, &settings, 8, NULL, 0, 0, NULL, 0, NULL, 0, NULL, 0, NULL, 0) == NR_EMPTY);
+    CHECK(nr_encode(table, table_len, 2, 4, bits, 40, NULL, 0) == NR_ERR_ROOM);
+    CHECK(nr_receiver_start(NULL, 0, &settings, 8, room, 241) == NR_ERR_EMPTY);
+    CHECK(nr_receiver_take(NULL, 0, &settings, 8, room, 241, &tx, bits, 24, &outcome, &left, 1, &block, 1) == NR_ERR_EMPTY);
+    CHECK(nr_receiver_take(table, table_len, &settings, 8, NULL, 0, &tx, bits, 24, &outcome, &left, 1, &block, 1) == NR_ERR_ROOM);
+    CHECK(nr_receiver_take(table, table_len, &settings, 8, room, 241, &tx, bits, 24, &outcome, &left, 1, NULL, 0) == NR_ERR_ROOM);
+    CHECK(nr_simulate(NULL, 0, &settings, 8, NULL, 0, NULL, 0, NULL, 0, NULL, 0, NULL, 0, NULL, 0) == NR_ERR_EMPTY);
+    CHECK(nr_send_many(NULL, 0, &settings, 8, &tx, 1, 0, NULL, 0, NULL, 0) == NR_ERR_EMPTY);
+    CHECK(nr_receive_many(NULL, 0, &settings, 8, NULL, 0, 0, NULL, 0, NULL, 0, NULL, 0, NULL, 0) == NR_ERR_EMPTY);
     CHECK(nr_receive_many(table, table_len, &settings, 8, NULL, 0, 0, NULL, 0, NULL, 0, NULL, 0, NULL, 0) == NR_OK);
     CHECK(outcome == 7 && left == 7 && block == 7);
 }
@@ -320,7 +323,7 @@ int main(int count, char **words) {
     no_items();
     nothing_received();
     left_out();
-    CHECK(!strcmp(nr_fault_name(NR_NONE_SCHEDULED), "NoneScheduled"));
+    CHECK(!strcmp(nr_fault_name(NR_ERR_NONE_SCHEDULED), "NoneScheduled"));
     CHECK(!strcmp(nr_fault_name(1000), "unknown"));
     free(table);
     free(text);

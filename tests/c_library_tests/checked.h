@@ -37,7 +37,7 @@ static inline uint8_t *text_of(const char *path, size_t *length) {
 /* The entries of a table's text, in memory of their own count; the program ends if it is no table. */
 static inline NrEntry *entries_of(const uint8_t *text, size_t length, size_t *count) {
     NrEntry none, *entries = NULL;
-    if (nr_table_entries(text, length, &none, 0, count) == NR_ROOM) entries = (NrEntry *)malloc(*count * sizeof *entries);
+    if (nr_table_entries(text, length, &none, 0, count) == NR_ERR_ROOM) entries = (NrEntry *)malloc(*count * sizeof *entries);
     if (!entries || nr_table_entries(text, length, entries, *count, count) != NR_OK) {
         printf("no table\n");
         exit(2);

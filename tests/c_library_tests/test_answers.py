@@ -7,9 +7,8 @@ import typing
 import unittest
 
 import built
-from linksim_tools.common import rate_matching
-from linksim_tools.common.graphs import GRAPHS
-from model import coding, encoder
+from model import clauses, coding, encoder
+from model.clauses import GRAPHS
 
 DRAWN = built.DRAWN.read_bytes()
 PRACTICE = built.PRACTICE.read_bytes()
@@ -110,8 +109,8 @@ class Answers(unittest.TestCase):
             for rv in range(4):
                 for lbrm in [0, a, 3 * a]:
                     found = built.written(built.struct(4), "nr_buffer", built.settings(rate2048, lbrm), a, rv).numbers()
-                    ncb = rate_matching.buffer_length(plan, lbrm or None)
-                    self.assertEqual(found, [ncb, rate_matching.start(plan, ncb, rv), 0, 0])
+                    ncb = clauses.buffer_length(plan, lbrm or None)
+                    self.assertEqual(found, [ncb, clauses.start(plan, ncb, rv), 0, 0])
 
     def test_encoded(self) -> None:
         """Bits and fillers at any place, by each base graph and lifting size that a code block has."""
@@ -146,7 +145,7 @@ class Answers(unittest.TestCase):
                 some = sorted(draw.sample(range(plan["c"]), draw.randrange(1, plan["c"] + 1)))
                 for blocks in [None, some, [*some, 383]]:
                     tx = built.tx(qm * nl * draw.randrange(1, 4_194_304 // (qm * nl) + 1), draw.randrange(4), qm, nl, blocks)
-                    shares = rate_matching.lengths(tx.g, qm, nl, range(plan["c"]) if blocks is None else some)
+                    shares = clauses.lengths(tx.g, qm, nl, range(plan["c"]) if blocks is None else some)
                     found = built.written(built.Room(plan["c"], item=4), "nr_lengths", rate2048, a, tx).numbers()
                     self.assertEqual(found, [shares.get(r, 0) for r in range(plan["c"])])
 

@@ -48,21 +48,29 @@ class Rates(unittest.TestCase):
         self.addCleanup(shutil.rmtree, folder)
         (folder / "curve.toml").write_text(CONF)
         shutil.copy(built.PRACTICE, folder)
-        # (its own library stands beside no program here, so that the chunks are the program's)
-        shutil.copy(built.program(), folder / "linksim")
         curve = [sys.executable, built.ROOT / "tools" / "curve"]
-        built.done([*curve, "run", folder / "curve.toml", "--program", folder / "linksim", "--jobs", "2"])
-        said = built.done([*curve, "pool", folder / "curve.toml", "--program", folder / "linksim"]).decode()
-        wanted = [[float("nan" if it == "-" else it) for it in line[:7]] for line in list(csv.reader(said.splitlines()))[1:]]
+        built.done([*curve, "run", folder / "curve.toml", "--program", built.program(), "--jobs", "2"])
+        said = built.done([*curve, "pool", folder / "curve.toml", "--program", built.program()]).decode()
+        wanted = [[float("nan" if it == "-" else it) for it in line[:9]] for line in list(csv.reader(said.splitlines()))[1:]]
         for jobs in (1, 3):
             found = self.bler(jobs=jobs)
-            rows = [[found.p[row], float(column + 1), *(float(f"{it[row, column]:.4g}") for it in found[1:6])]
+            rows = [[found.p[row], float(column + 1), *(float(f"{it[row, column]:.4g}") for it in found[1:6]),
+                     float(f"{found.events[row, column]:.1f}"), float(f"{found.rounds_worth[row, column]:.4g}")]
                     for row in range(len(POINTS)) for column in range(2)]
             # (as text, in which what is no number is the same)
             self.assertEqual(str(rows), str(wanted))
         self.assertGreater(len({str(row[2:]) for row in wanted}), 4)
         self.assertIn("95 % interval", repr(found))
-        self.assertEqual(repr(found).count("\n"), len(wanted))
+        self.assertEqual(repr(found).count("\n"), len(wanted) + ("~" in repr(found)))
+
+    def test_extrapolated_rates_are_marked(self) -> None:
+        """Where no round can have shown a rate its text has ~, and says what was shown."""
+        found = self.bler(p=[0.01, 0.1, 0.15], rounds=200, chunks=2)
+        is_guess = found.rates * found.rounds_worth < 1
+        self.assertTrue(is_guess.any() and not is_guess.all(), found)
+        rows = [line for line in repr(found).splitlines()[1:] if not line.startswith("~")]
+        self.assertEqual(["~" in line for line in rows], is_guess.ravel().tolist())
+        self.assertIn("the upper end of the interval is what was shown", repr(found).splitlines()[-1])
 
     def test_progress(self) -> None:
         """Each chunk is told; points stop by their failures, and at the latest by their chunks."""
@@ -88,7 +96,7 @@ class Rates(unittest.TestCase):
         for txs in ([], [self.txs[0], nr.Tx(g=2002, qm=2)], [nr.Tx(g=2000, blocks=[0])]):
             with self.assertRaisesRegex(ValueError, "differ in rv alone"):
                 nr.bler(self.table, 1000, txs, p=0.5, rate2048=683)
-        with unittest.mock.patch("nr._bler.numpy_or_none", lambda: None):
+        with unittest.mock.patch("linksim_tools.curve.bler.numpy_or_none", lambda: None):
             self.assertRaisesRegex(ImportError, "numpy", self.bler)
 
     def test_packed(self) -> None:

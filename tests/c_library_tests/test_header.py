@@ -71,7 +71,7 @@ class Header(unittest.TestCase):
     """What stands in nr.h is what stands in the sources."""
 
     def test_calls(self) -> None:
-        declared = re.findall(r"uint32_t (nr_\w+)\((.*?)\);", HEADER, flags=re.DOTALL)
+        declared = re.findall(r"NrStatus (nr_\w+)\((.*?)\);", HEADER, flags=re.DOTALL)
         found = {name: spaced(given) for name, given in declared}
         self.assertEqual(found, exports())
         self.assertIn("nr_send", found)
@@ -84,8 +84,8 @@ class Header(unittest.TestCase):
 
     def test_statuses(self) -> None:
         listed = HEADER.partition("enum NrStatus {")[2].partition("}")[0]
-        named = dict(re.findall(r"NR_(\w+) = (\d+)", listed))
-        found = {name.title().replace("_", ""): int(number) for name, number in named.items() if name != "OK"}
+        named = dict(re.findall(r"NR_ERR_(\w+) = (\d+)", listed))
+        found = {name.title().replace("_", ""): int(number) for name, number in named.items()}
         self.assertEqual(found, statuses())
 
     def test_names(self) -> None:
@@ -96,7 +96,7 @@ class Header(unittest.TestCase):
         """The header, the library and the module have the version of the file VERSION, and the name has the interface."""
         defined = dict(re.findall(r"#define (NR_VERSION\w*|NR_INTERFACE) (\S+)", HEADER))
         numbers = [defined[f"NR_VERSION_{part}"] for part in ("MAJOR", "MINOR", "PATCH")]
-        self.assertEqual((defined["NR_VERSION"], ".".join(numbers)), (f'"{VERSION}"', VERSION))
+        self.assertEqual((defined["NR_VERSION"], ".".join(numbers)), (f'"{VERSION}"', VERSION.partition("-")[0]))
         self.assertEqual(built.module().__version__, VERSION)
         self.assertEqual(f"libnr.so.{defined['NR_INTERFACE']}", built.LIBRARY.name)
 

@@ -59,6 +59,12 @@ class Many(built.OfModule):
             sent = self.nr.send_many(self.table, blocks, self.tx, **RATE)
             self.assertEqual((sent.shape, bytes(sent)), ((COUNT, G), self.sent))
         self.assertEqual(self.nr.send_many(self.table, [], self.tx, **RATE).shape, (0, G))
+        # No row is judged as any other, where it is known how long it would be.
+        none = ((ctypes.c_ubyte * OCTETS) * 0)()
+        self.assertEqual(self.nr.send_many(self.table, none, self.tx, **RATE).shape, (0, G))
+        for words, name in [({"tx": self.nr.Tx(G, rv=4)}, "Rv"), ({"rate2048": 0}, "RateRange"), ({"tx": self.nr.Tx(G + 1, qm=2)}, "Ragged")]:
+            words = {"tx": self.tx, **RATE, **words}
+            self.assertEqual(built.fault_of(self.nr.send_many, self.table, none, **words).name, name)
 
     def test_sent_into_a_room(self) -> None:
         for room in [bytearray(COUNT * G), rows(bytearray(COUNT * G), COUNT), ((ctypes.c_ubyte * G) * COUNT)()]:

@@ -16,7 +16,7 @@ from model import encoder
 PRACTICE = built.PRACTICE.read_bytes()
 RATE = {"rate2048": 2048}
 BLOCK = b"123456789"
-PAGES = ["README.md", "docs/c-library.md", "docs/curves.md"]
+PAGES = ["README.md", "docs/c-library.md", "docs/curves.md", "docs/soft-receiver.md"]
 SCRIPTS = re.compile(r"```python\n(.*?)```\n+```\n(.*?)```", re.DOTALL)
 
 

@@ -10,6 +10,7 @@ import shutil
 import sys
 import typing
 
+import archive as making
 import built
 
 WARNINGS = ["-Wall", "-Wextra", "-pedantic", "-Werror"]
@@ -33,7 +34,7 @@ int main(int words_len, char **words) {{
 # The calls that take memory.
 GROWING = ["nr_table_check", "nr_table_entries", "nr_crc", "nr_codeword", "nr_cut", "nr_encode", "nr_send", "nr_receive"]
 GROWING += ["nr_select", "nr_interleave", "nr_match", "nr_simulate", "nr_receiver_start", "nr_receiver_take", "nr_send_many"]
-GROWING += ["nr_receive_many"]
+GROWING += ["nr_receive_many", "nr_join", "nr_send_packed", "nr_receive_packed"]
 
 
 class Compiled(built.InFolder):
@@ -67,8 +68,23 @@ class Programs(Compiled):
             built.done([self.compiled("calls.c", "-x", "c++", standard, compiler=compiler), built.PRACTICE])
 
     def test_calls_of_the_shared_library(self) -> None:
-        ending = [f"-L{built.FOLDER}", f"-Wl,-rpath,{built.FOLDER}", "-l:libnr.so.2"]
+        ending = [f"-L{built.FOLDER}", f"-Wl,-rpath,{built.FOLDER}", "-l:libnr.so.3"]
         built.done([self.compiled("calls.c", ending=ending), built.PRACTICE])
+
+    def test_an_older_library(self) -> None:
+        """A program that uses a function of a later release is not started with this library, rather than ended when it calls."""
+        text = (built.C / "nr.map").read_text()
+        later = re.sub(r" +nr_match;\n", "", text) + "\nNR_99 {\n    global:\n        nr_match;\n} NR_0.3;\n"
+        (self.folder / "later.map").write_text(later)
+        words = ["-shared", "-Wl,-soname,libnr.so.3", "-Wl,--version-script,later.map", "-o", "libnr.so.3"]
+        built.done([built.compiler(), *words, *sorted((built.FOLDER / "objects").glob("*.o"))], self.folder)
+        ending = [f"-L{self.folder}", "-l:libnr.so.3"]
+        for name, call in {"older": "nr_version()", "later": "nr_match(0, 0, 0, 0, 0)"}.items():
+            program = f'#include <stdio.h>\n#include <nr.h>\nint main(void) {{ return puts("starts") < 0 || !{call}; }}\n'
+            (self.folder / f"{name}.c").write_text(program)
+            path = self.compiled(self.folder / f"{name}.c", ending=ending)
+            status, said = built.ran([path], environment={**os.environ, "LD_LIBRARY_PATH": str(built.FOLDER)})
+            self.assertEqual((status == 0, b"starts" in said, b"NR_99" in said), (name == "older", name == "older", name == "later"))
 
     def test_calls_under_sanitizers(self) -> None:
         (self.folder / "nothing.c").write_text("int main(void) { return 0; }\n")
@@ -99,7 +115,7 @@ class Statuses(Compiled):
     def test_unused(self) -> None:
         """A program that looks at no status gets a warning for each call, in C and in C++."""
         header = (built.C / "nr.h").read_text()
-        calls = dict(re.findall(r"(?s)uint32_t (nr_\w+)\(([^)]*)\);", header))
+        calls = dict(re.findall(r"(?s)NrStatus (nr_\w+)\(([^)]*)\);", header))
         self.assertIn("nr_send", calls)
         lines = [f"    {name}({', '.join('0' for _ in given.split(','))});\n" for name, given in calls.items()]
         (self.folder / "unused.c").write_text("#include <nr.h>\nint main(void) {\n" + "".join(lines) + "    return 0;\n}\n")
@@ -115,7 +131,7 @@ class Statuses(Compiled):
         (self.folder / "document.c").write_text(DOCUMENT.format(checked=built.HERE / "checked.h", lines=lines))
         program = self.compiled(self.folder / "document.c")
         self.assertEqual(built.done([program, built.PRACTICE]), b"0\n")
-        self.assertEqual(built.done([program, built.ROOT / "README.md"]), b"refused: Fields\n22\n")
+        self.assertEqual(built.done([program, built.ROOT / "README.md"]), b"error: Fields\n22\n")
 
 
 class Examples(Compiled):
@@ -145,22 +161,24 @@ class Examples(Compiled):
         stage = self.folder / "a stage"
         self.make("install", f"DESTDIR={stage}", "PREFIX=/usr")
         found = {str(path.relative_to(stage / "usr")) for path in stage.glob("**/*") if not path.is_dir()}
-        names = ["libnr.a", "libnr.so", "libnr.so.2", "pkgconfig/nr.pc", "cmake/nr/nrConfig.cmake"]
+        names = ["libnr.a", "libnr.so", "libnr.so.3", "pkgconfig/nr.pc", "cmake/nr/nrConfig.cmake"]
         names.append("cmake/nr/nrConfigVersion.cmake")
-        module = {f"share/nr/nr/{path.name}" for path in (built.C / "nr").iterdir() if path.suffix in (".py", ".typed")}
-        # What the module shares with the tools is the tools' own code.
-        top = stage / "usr" / "share" / "nr" / "nr"
-        shared = {path.relative_to(top / "_tools"): path.read_bytes() for path in (top / "_tools").glob("**/*") if path.is_file()}
-        self.assertEqual(shared, {name: (built.ROOT / "tools" / name).read_bytes() for name in shared})
-        self.assertEqual((top / "practice.csv").read_bytes(), built.PRACTICE.read_bytes())
-        module |= {"share/nr/nr/practice.csv", *(f"share/nr/nr/_tools/{name}" for name in shared)}
+        if making.FASTER.exists() and built.archive() == making.ARCHIVE:
+            names += [f"glibc-hwcaps/{making.LEVEL}/{name}" for name in ("libnr.a", "libnr.so.3")]
+        packages = {f"share/nr/{path.relative_to(top)}" for top in map(pathlib.Path, built.PACKAGES)
+                    for path in top.glob("*/**/*.*") if path.parts[len(top.parts)] in ("nr", "linksim_tools")
+                    and path.suffix in (".py", ".typed", ".txt", ".js", ".css")}
+        both = built.DRAWN.read_bytes() + built.PRACTICE.read_bytes()
+        for name in ("nr", "rust", "octave"):
+            self.assertEqual((stage / "usr" / "share" / "nr" / name / "practice.csv").read_bytes(), both)
+        packages |= {"share/nr/nr/practice.csv"}
         # The sources of the Rust crate, of the calls for Octave and of those for testbenches have tests of their own.
         folders = tuple(f"share/nr/{name}/" for name in ("rust", "octave", "dpi"))
         sources = {name for name in found if name.startswith(folders)}
         self.assertLess({"share/nr/rust/Cargo.toml", "share/nr/octave/nr_send.m", "share/nr/dpi/nr_dpi_pkg.sv"}, sources)
-        self.assertEqual(found - sources, {"include/nr.h", *module, *(f"lib/{name}" for name in names)})
+        self.assertEqual(found - sources, {"include/nr.h", "include/nr_short_names.h", *packages, *(f"lib/{name}" for name in names)})
         self.assertIn("prefix=/usr\n", (stage / "usr" / "lib" / "pkgconfig" / "nr.pc").read_text())
-        self.assertEqual((stage / "usr" / "lib" / "libnr.so.2").stat().st_mode & 0o777, 0o644)
+        self.assertEqual((stage / "usr" / "lib" / "libnr.so.3").stat().st_mode & 0o777, 0o644)
         self.make("uninstall", f"DESTDIR={stage}", "PREFIX=/usr")
         self.assertEqual([path for path in stage.glob("**/*") if not path.is_dir()], [])
 
@@ -202,7 +220,7 @@ foreach(version {versions})
   find_package(nr ${{version}} QUIET)
   message(STATUS "version ${{version}}: ${{nr_FOUND}} ${{nr_CONSIDERED_VERSIONS}}")
 endforeach()
-find_package(nr 2.0 REQUIRED)
+find_package(nr 3.0 REQUIRED)
 get_target_property(included nr::nr INTERFACE_INCLUDE_DIRECTORIES)
 message(STATUS "included: ${{included}}")
 foreach(target nr static)
@@ -222,9 +240,11 @@ class Installed(Compiled):
 
     def versions(self) -> typing.Any:
         """Versions that are asked for, and whether each is met: the interface's, the project's and others."""
-        major, minor, patch = map(int, VERSION.split("."))
-        met = ["2", "2.0", "2.0.0", VERSION, f"{major}.{minor}"]
-        return {**{it: "1" for it in met}, **{it: "0" for it in ["2.1", "3", f"{major}.{minor}.{patch + 1}", f"{major}.{minor + 1}"]}}
+        number = VERSION.partition("-")[0]
+        major, minor, patch = map(int, number.split("."))
+        met = ["3", "3.0", "3.0.0", number, f"{major}.{minor}"]
+        others = ["2", "3.1", "4", f"{major}.{minor}.{patch + 1}", f"{major}.{minor + 1}"]
+        return {**dict.fromkeys(met, "1"), **dict.fromkeys(others, "0")}
 
     def configured(self, search: typing.Any) -> typing.Any:
         """What CMake says of a project that finds the library by these prefixes, and the folder of what it builds."""
@@ -237,7 +257,7 @@ class Installed(Compiled):
         said = built.done(["cmake", "-S", source, "-B", source / "build", prefixes]).decode()
         for version, is_met in asked.items():
             # One that is not met is answered by the interface's number too.
-            self.assertIn(f"version {version}: {is_met} {VERSION}{'' if is_met == '1' else ' (interface 2)'}\n", said)
+            self.assertIn(f"version {version}: {is_met} {VERSION}{'' if is_met == '1' else ' (interface 3)'}\n", said)
         return said, source / "build"
 
     def other_prefix(self) -> pathlib.Path:

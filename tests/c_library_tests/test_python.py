@@ -6,6 +6,7 @@ import array
 import ast
 import copy
 import ctypes
+import decimal
 import fractions
 import functools
 import os
@@ -123,15 +124,16 @@ class Faults(unittest.TestCase):
 
         known = {status for status in range(1000) if nr.fault_name(status) != "unknown"}
         self.assertEqual(set(_faults.SENTENCES), known)
-        self.assertEqual(str(nr.Fault(41)), "RateRange: the code rate is 1 to 2048 in 2048ths")
-        self.assertEqual(nr.Fault(41).sentence, "the code rate is 1 to 2048 in 2048ths")
-        self.assertRegex(str(nr.Fault(25, 106)), "^Twice 106: .* record 106 ")
+        self.assertEqual(str(nr.Error(41)), "RateRange: the code rate is not 1 to 2048 in 2048ths")
+        self.assertEqual(nr.Error(41).sentence, "the code rate is not 1 to 2048 in 2048ths")
+        self.assertTrue(nr.Fault is nr.Error and issubclass(nr.Error, ValueError))
+        self.assertRegex(str(nr.Fault(25, 106)), "^Twice 106: record 106 ")
         self.assertRegex(str(nr.Fault(28, 2)), "^MissingRow 2: base graph 2 ")
         self.assertEqual(nr.Fault(99).name, "unknown")
         table, tx = nr.Table(PRACTICE), nr.Tx(g=104, qm=2)
         calls: list[tuple[typing.Callable[[], typing.Any], str]] = [
             (lambda: nr.receive(table, 72, [(tx, bytes(104)), (tx, bytes(103))], **RATE),
-             "transmission 2 has the length 103, and not 104"),
+             "heard of transmission 2 has the length 103, and not 104"),
             (lambda: nr.codeword(table, bytes(87), 72, **RATE), "bits has the length 87, and not 88"),
             (lambda: nr.encode(table, bytes(20), graph=2, z=4), "bits has the length 20, and not 40"),
             (lambda: nr.match(bytes(40), 8, graph=2, z=4, ncb=200, qm=2), "d has the length 40, and not 200"),
@@ -141,7 +143,7 @@ class Faults(unittest.TestCase):
                 call()
             again = pickle.loads(pickle.dumps(raised.exception))
             self.assertEqual((again.status, again.sentence), (56, raised.exception.sentence))
-        self.assertIn("nr.Fault: Size: ", built.ran(
+        self.assertIn("nr.Error: Size: ", built.ran(
             [sys.executable, "-c", "import nr; nr.plan(9, rate2048=1)"], environment=built.for_python())[1].decode())
 
 
@@ -160,8 +162,10 @@ class Given(built.OfModule):
             for _ in range(3):
                 self.assertEqual(self.nr.send(self.table, BLOCK, tx, **RATE), self.sent)
             again = self.tx._replace(blocks=iter([0, 5]))
-            self.assertEqual((again.blocks, again), ((0, 5), self.nr.Tx(104, 0, 2, 1, [0, 5])))
+            self.assertEqual((again.blocks, again), ((0, 5), self.nr.Tx(104, qm=2, blocks=[0, 5])))
         self.assertRaises(TypeError, self.nr.Tx, 104, blocks=["0"])
+        self.assertRaises(TypeError, self.nr.Tx, 104, 2)  # (in other languages the second argument is Qm)
+        self.assertEqual(self.nr.Tx._make([104, 2, 4, 1, None]), self.nr.Tx(104, rv=2, qm=4))
 
     def test_rates(self) -> None:
         for rate1024, rate2048 in [(1024, 2048), (120, 240), (682.5, 1365), (948.0, 1896), (fractions.Fraction(1833, 2), 1833)]:
@@ -171,7 +175,7 @@ class Given(built.OfModule):
         for rates in wrong:
             self.assertRaises(TypeError, self.nr.plan, 8, **rates)
             self.assertRaises(TypeError, self.nr.send, self.table, BLOCK, self.tx, **rates)
-        for rate1024 in [0.25, 682.4, float("nan"), float("inf"), -1]:
+        for rate1024 in [0.25, float("nan"), float("inf"), -1]:
             self.assertRaises(ValueError, self.nr.plan, 8, rate1024=rate1024)
         self.assertRaises(self.nr.Fault, self.nr.plan, 8, rate1024=1024.5)
 
@@ -182,7 +186,7 @@ class Given(built.OfModule):
         self.assertEqual(self.nr.plan(8448, rate=0.5), (1, 8472, 24, 2, 4260, 22, 208, 6, 4576, 13728))
         self.assertEqual(self.nr.send(self.table, BLOCK, self.tx, rate=1), self.sent)
         sentences = [
-            ({"rate1024": 0.5}, "512 in 1024ths"), ({"rate": 0.3}, "614/2048 = 0.29980"), ({"rate": 0}, "more than 0"),
+            ({"rate1024": 0.5}, "512 in 1024ths"), ({"rate": 0}, "more than 0"),
             ({"rate": 512}, "rate1024="), ({"rate": float("nan")}, ""),
         ]
         for words, said in sentences:
@@ -191,6 +195,53 @@ class Given(built.OfModule):
         wrong: list[dict[str, typing.Any]] = [{"rate": 0.5, "rate1024": 512}, {"rate": "half"}]
         for words in wrong:
             self.assertRaises((TypeError, ValueError), self.nr.plan, 8448, **words)
+
+    def test_every_rate(self) -> None:
+        """A rate between two 2048ths takes the base graph that 6.2.2 and 7.2.2 give this rate: 2 up to 0.25, and up to 0.67 for at
+        most 3824 bits. By hand: 0.67 is 1372.16 in 2048ths."""
+        third, near = fractions.Fraction(1, 3), fractions.Fraction(1, 10**30)
+        limit = fractions.Fraction(67, 100)
+        for rate, graph, of_long in [
+            (third, 2, 1), (1 / 3, 2, 1), (2 / 3, 2, 1), (0.67, 2, 1), (decimal.Decimal("0.67"), 2, 1), (limit, 2, 1), (limit + near, 1, 1),
+            (0.25, 2, 2), (0.25 + 2**-54, 2, 1), (fractions.Fraction(1, 4) + near, 2, 1), (fractions.Fraction(1, 4) - near, 2, 2),
+            (near, 2, 2), (1 - near, 1, 1), (0.3, 2, 1), (0.6701, 1, 1),
+        ]:
+            with self.subTest(rate):
+                self.assertEqual([self.nr.plan(a, rate=rate).graph for a in (3824, 3840)], [graph, of_long])
+                if isinstance(rate, fractions.Fraction) and rate > near:
+                    self.assertEqual(self.nr.plan(3824, rate1024=1024 * rate).graph, graph)
+        self.assertEqual(self.nr.plan(3824, rate1024=682.4).graph, 2)
+
+    def test_no_limit(self) -> None:
+        """lbrm=None is no limit, and so is the greatest number of a settings file; 0, which is none there, is taken with a warning."""
+        plain = self.nr.buffer(72, 1, **RATE)
+        for lbrm in (None, 2**32 - 1):
+            self.assertEqual(self.nr.buffer(72, 1, lbrm=lbrm, **RATE), plain)
+        self.assertIsNone(self.nr.Receiver(self.table, 72, **RATE).lbrm)
+        self.assertWarnsRegex(DeprecationWarning, "lbrm=0", self.nr.buffer, 72, 1, lbrm=0, rate1024=1023)
+
+    def test_near(self) -> None:
+        """The sizes next to one that cannot be segmented are the first that nr_plan takes, and the message says so."""
+        nr = self.nr
+        self.assertEqual(nr.near(7640, rate2048=512), (7632, 7656))
+        for a in (0, 3, 8, 72, 75, 7640, 100_000, 1_310_715, 1_310_720, 2_000_000):
+            below, above = nr.near(a, rate=0.5)
+            fits = [it for it in range(max(8, a // 8 * 8 - 3000), min(a + 3000, 1_310_720) + 1, 8) if self.is_planned(it)]
+            self.assertEqual(below, max((it for it in fits if it <= a), default=below if a > 1_400_000 else None))
+            self.assertEqual(above, min((it for it in fits if it >= a), default=None))
+        said = r"nr\.near\(7640, rate2048=512\) is \(7632, 7656\)"
+        self.assertRaisesRegex(nr.Error, said, nr.send, self.table, bytes(955), self.tx, rate=0.25)
+
+    def is_planned(self, a: int) -> bool:
+        try:
+            return bool(self.nr.plan(a, rate=0.5))
+        except self.nr.Error:
+            return False
+
+    def test_graph(self) -> None:
+        """The message names the base graph that the table lacks."""
+        said = "no entries for base graph 1, which"
+        self.assertRaisesRegex(self.nr.Error, said, self.nr.send, self.table, bytes(500), self.tx, rate=1)
 
     def test_what_is_wrong(self) -> None:
         """An argument of a wrong kind is named."""
@@ -205,6 +256,16 @@ class Given(built.OfModule):
             (lambda: nr.send(self.table, BLOCK, self.tx, rate=1, lbrm=0.5), "lbrm is 0.5"),
             (lambda: nr.encode(self.table, bytes(40), graph="1", z=4), "graph is '1'"),
             (lambda: nr.beats(b"", 8.5), "width is 8.5"),
+            (lambda: nr.Tx(8, blocks=0), "blocks is 0, and not the indexes"),
+            (lambda: nr.receive(self.table, 72, (self.tx, self.sent), **RATE), "receptions are pairs"),
+            (lambda: nr.receive(self.table, 72, [self.tx, self.sent], **RATE), "receptions are pairs"),
+            (lambda: nr.receive(self.table, 72, [(self.tx, [None] * 104)], **RATE), "item 0 of heard is None"),
+            (lambda: nr.send(self.table, tx=self.tx, bits=[0.0] * 72, **RATE), "item 0 of bits is 0.0"),
+            (lambda: nr.send(self.table, tx=self.tx, bits=array.array("d", [0.0] * 72), **RATE), "bits is not an array of whole"),
+            (lambda: nr.send(self.table, BLOCK, self.tx, out=array.array("f", [0] * 104), **RATE), "can't be written"),
+            (lambda: nr.send(self.table, "123456789", self.tx, **RATE), r"is a str: .*\.encode\(\)"),
+            (lambda: nr.simulate(self.table, 72, self.tx, p="0.2", rounds=1, **RATE), "p is '0.2'"),
+            (lambda: nr.simulate(self.table, 72, self.tx, p=0.2, rounds=1, jobs="2", **RATE), "jobs is '2'"),
         ]
         for call, said in calls:
             with self.assertRaisesRegex(TypeError, said):
@@ -218,12 +279,12 @@ class Given(built.OfModule):
         big = nr.receive(self.table, 800, [(tx, nr.send(self.table, bytes(100), tx, rate=0.5))], rate=0.5)
         self.assertEqual(repr(big), "Received(outcomes=[DELIVERED], left=[0], block=<100 octets>)")
         self.assertEqual(repr(receiver.take(nr.Tx(4), bytes([2] * 4))), "Taken(outcome=OPEN, left=[88], block=None)")
-        self.assertEqual((dir(nr), len({self.table, nr.Table.practice()})), (sorted([*nr.__all__, *nr.RESULTS]), 1))
-        self.assertNotEqual(self.table, nr.Table(built.DRAWN.read_bytes()))
+        self.assertEqual((dir(nr), len({self.table, nr.Table.practice()})), (sorted([*nr.__all__, *nr.RESULTS]), 2))
+        self.assertEqual(nr.Table.practice(), nr.Table(built.DRAWN.read_bytes() + PRACTICE))
         for python in filter(shutil.which, ["python3", "python3.8", "python3.13"]):
             words = [python, "-c", "import nr, pydoc; print(pydoc.plain(pydoc.render_doc(nr)))"]
             status, said = built.ran(words, environment=built.for_python())
-            self.assertTrue(status or b"Table.practice" in said and said.count(b"\n") < 300, said)
+            self.assertTrue(status or b"Table.practice" in said and said.count(b"\n") < 350, said)
 
     def test_no_row_in_each_python(self) -> None:
         """Without numpy."""

@@ -73,7 +73,7 @@ class Taking(built.OfModule):
         for call, name in cases:
             with self.subTest(name):
                 self.assertEqual(built.fault_of(call).name, name)
-        with self.assertRaisesRegex(self.nr.Fault, "^Length: what was heard has the length 103, and not 104"):
+        with self.assertRaisesRegex(self.nr.Fault, "^Length: heard has the length 103, and not 104"):
             receiver.take(tx, whole[1:])
         self.assertEqual(receiver.room, room)
         self.assertEqual(receiver.take(tx, whole).outcome, self.nr.Outcome.DELIVERED)

@@ -9,9 +9,8 @@ import typing
 import unittest
 
 import built
-from model import coding
+from model import clauses, coding
 from kept import Kept, receiver_size
-from linksim_tools.common import rate_matching
 
 PRACTICE = built.PRACTICE.read_bytes()
 DRAWN = built.DRAWN.read_bytes()
@@ -36,7 +35,7 @@ def digest(table: built.Table) -> int:
 def header(table: built.Table, settings: typing.Any, a: int) -> bytes:
     """The octets that a room begins with."""
     numbers = coding.plan(a, settings[0])
-    ncb = rate_matching.buffer_length(numbers, settings[1] or None)
+    ncb = clauses.buffer_length(numbers, settings[1] or None)
     said = 2, a, numbers["graph"], numbers["z"], numbers["kdash"], numbers["c"], ncb, digest(table)
     return struct.pack("<8I", *said)
 
@@ -46,14 +45,14 @@ class Record:
 
     def __init__(self, a: int, rate2048: int, lbrm: int = 0) -> None:
         self.numbers = coding.plan(a, rate2048)
-        self.ncb = rate_matching.buffer_length(self.numbers, lbrm or None)
+        self.ncb = clauses.buffer_length(self.numbers, lbrm or None)
         positions = COLUMNS[self.numbers["graph"]] * self.numbers["z"]
         self.first = [[NOTHING] * positions for _ in range(self.numbers["c"])]
         self.clash = [0] * self.numbers["c"]
 
     def selected(self, rv: int, count: int) -> list[int]:
         """The positions of the selected bits in turn (5.4.2.1)."""
-        at = rate_matching.start(self.numbers, self.ncb, rv)
+        at = clauses.start(self.numbers, self.ncb, rv)
         found: list[int] = []
         while len(found) < count:
             position = at % self.ncb + 2 * self.numbers["z"]
@@ -66,7 +65,7 @@ class Record:
         """A transmission, place by place."""
         scheduled = [r for r in range(self.numbers["c"]) if not tx.some or tx.blocks[r // 64] >> r % 64 & 1]
         at = 0
-        for r, count in rate_matching.lengths(tx.g, tx.qm, tx.nl, scheduled).items():
+        for r, count in clauses.lengths(tx.g, tx.qm, tx.nl, scheduled).items():
             positions, each = self.selected(tx.rv, count), count // tx.qm
             for place in range(count):
                 position = positions[place % tx.qm * each + place // tx.qm]

@@ -6,6 +6,7 @@ import array
 import ctypes
 import hashlib
 import typing
+import unittest.mock
 
 import built
 
@@ -68,14 +69,38 @@ class Stages(built.OfModule):
     def test_hard(self) -> None:
         """Hard decisions: positive is 0, and what is near 0 or no number was not heard."""
         nan, nr = float("nan"), self.nr
-        self.assertEqual(nr.hard([3, -2, 0.5, -0.5, 0, nan]), bytes([0, 1, 0, 1, 2, 2]))
+        self.assertEqual(nr.hard([3, -2, 0.5, -0.5, 0, nan], 0), bytes([0, 1, 0, 1, 2, 2]))
+        self.assertRaises(TypeError, nr.hard, [3, -2])
         self.assertEqual(nr.hard([3, -2, 0.5, -0.5, -float("inf")], 1), bytes([0, 1, 2, 2, 1]))
         for threshold in (-1, nan):
             self.assertRaises(ValueError, nr.hard, [1.0], threshold)
         numpy = built.numpy()
         values = numpy.array([[3, -2, 0.5], [-0.5, 0, nan]])
-        self.assertEqual((nr.hard(values, 0.5).tolist(), nr.hard(values).dtype), ([[0, 1, 2], [2, 2, 2]], numpy.uint8))
+        self.assertEqual((nr.hard(values, 0.5).tolist(), nr.hard(values, 0).dtype), ([[0, 1, 2], [2, 2, 2]], numpy.uint8))
         self.assertEqual(nr.hard(numpy.array([-128, 127, 0], numpy.int8), 100).tolist(), [1, 0, 2])
+
+    def test_hard_of_what_is_not_soft(self) -> None:
+        """Decisions and unsigned values would be received as a block of zeros, which is a codeword. A mask would be lost."""
+        nr, bits = self.nr, self.nr.send(self.table, BLOCK, self.nr.Tx(300, qm=2), **RATE)
+        for given in [[True, False], [0, 1, 1], (1.0, 0.0), bits, array.array("B", bits), array.array("b", bits), array.array("d", list(bits))]:
+            with self.assertRaisesRegex((TypeError, ValueError), "decisions|unsigned"):
+                nr.hard(given, 0)
+        self.assertEqual(nr.hard([0.0, 0.0], 1), bytes([2, 2]))
+        numpy = built.numpy()
+        sent = numpy.frombuffer(bits, numpy.uint8)
+        soft = 40.0 - 80 * sent
+        for given, said in [
+            (sent, "unsigned"), (sent.astype(bool), "decisions"), (sent.astype(int), "decisions"), (sent.astype(float), "decisions"),
+            (soft.astype(numpy.uint8), "unsigned"), (numpy.ma.masked_where(sent > 0, soft), r"\.filled\(0\)"),
+            (soft.astype(complex), "not real"),
+        ]:
+            with self.assertRaisesRegex((TypeError, ValueError), said):
+                nr.hard(given, 1)
+        heard = numpy.ma.masked_where(sent > 0, sent)
+        with self.assertRaisesRegex(TypeError, r"\.filled\(nr\.ERASED\)"):
+            nr.receive(self.table, 72, [(nr.Tx(300, qm=2), heard)], **RATE)
+        with self.assertRaisesRegex(TypeError, r"\.filled\(nr\.ERASED\)"):
+            nr.receive_many(self.table, 72, nr.Tx(300, qm=2), heard.reshape(1, -1), **RATE)
 
     def test_soft_values(self) -> None:
         """What is given as if it were soft gets a word, at the line that gave it."""
@@ -84,6 +109,7 @@ class Stages(built.OfModule):
         calls: list[typing.Callable[[typing.Any], typing.Any]] = [
             lambda it: nr.receive(self.table, 72, [(tx, it)], **RATE), lambda it: nr.Receiver(self.table, 72, **RATE).take(tx, it),
             lambda it: nr.receive_many(self.table, 72, tx, [it], **RATE),
+            lambda it: nr.receive_many(self.table, 72, tx, [bytes(104)] * 50_000 + [it], **RATE),
         ]
         for call in calls:
             with self.assertWarnsRegex(UserWarning, r"nr\.hard") as warned:
@@ -143,6 +169,18 @@ class Rounds(built.OfModule):
         late = [sum(not 0 < it <= n for it in whole.after.tolist()) / 300 for n in (1, 2)]
         self.assertEqual((whole.rates, repr(whole)), (late, f"Simulated(rounds=300, rates={late})"))
 
+    def test_in_steps(self) -> None:
+        """The answer is the same whether all transmissions are made at once, or later ones only for the rounds that go on."""
+        from nr import _simulate
+
+        for a, g, p in ((72, 200, 0.3), (7632, 24000, 0.08)):
+            txs, found = [self.nr.Tx(g=g, rv=rv, qm=4) for rv in (0, 2, 3)], []
+            for few in (-1.0, 1.0):
+                with unittest.mock.patch.object(_simulate, "FEW", few):
+                    found.append(self.nr.simulate(self.table, a, txs, p=p, rounds=150, first=9, seed=2, rate2048=512))
+            self.assertEqual(*([it.tolist() for it in one] for one in found))
+            self.assertGreater(len(set(found[0].after.tolist())), 1)
+
     def test_edges(self) -> None:
         tx = self.nr.Tx(g=200, qm=2)
         none = self.nr.simulate(self.table, 72, [tx], p=0.5, rounds=0, **RATE)
@@ -154,7 +192,7 @@ class Rounds(built.OfModule):
             ([tx], {"p": [0.1, 0.2]}, ValueError, "p has 2 probabilities, and not 1"),
             ([tx], {"p": 1.5}, ValueError, "not a probability"),
             ([tx], {"p": 0.5, "rounds": -1}, ValueError, "rounds is -1"),
-            ([tx], {"p": "0.5"}, ValueError, "3 probabilities"),
+            ([tx], {"p": "0.5"}, TypeError, "p is .0\\.5."),
             ([tx], {"p": None}, TypeError, "p is None"),
             ([tx], {"p": 0.5, "seed": 0.5}, TypeError, "seed is 0.5, and not a whole number"),
             ([tx], {"p": 0.5, "chunk": "1"}, TypeError, "chunk is '1'"),

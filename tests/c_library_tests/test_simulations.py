@@ -9,9 +9,7 @@ import typing
 import unittest
 
 import built
-from linksim_tools.common import rate_matching
-from linksim_tools.curve.draws import drawn_places
-from model import coding
+from model import clauses, coding, pcg
 
 PRACTICE = built.PRACTICE.read_bytes()
 DRAWN = built.DRAWN.read_bytes()
@@ -76,8 +74,8 @@ class Case:
         """How many places of each code block a transmission of a round erases."""
         tx, found = self.txs[at % len(self.txs)], [0] * self.plan["c"]
         scheduled = [r for r in range(len(found)) if not tx.some or tx.blocks[r // 64] >> r % 64 & 1]
-        lengths = rate_matching.lengths(tx.g, tx.qm, tx.nl, scheduled)
-        places, end = drawn_places(self.seeds[at], self.thresholds[at % len(self.txs)], tx.g), 0
+        lengths = clauses.lengths(tx.g, tx.qm, tx.nl, scheduled)
+        places, end = pcg.places(self.seeds[at], self.thresholds[at % len(self.txs)], tx.g), 0
         for r, length in lengths.items():
             found[r] = sum(end <= place < end + length for place in places)
             end += length

@@ -11,9 +11,9 @@ import unittest
 import built
 from built import made
 from model import coding
+from model.clauses import GRAPHS
 import shared
 from kept import Kept
-from linksim_tools.common.graphs import GRAPHS
 
 # In ten code blocks K' is 8,448, the most of base graph 1. The buffer is limited to 20,000 of N = 25,344 positions.
 A, RATE, C, KDASH, N = 84216, 1365, 10, 8448, 25344

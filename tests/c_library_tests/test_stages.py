@@ -9,9 +9,7 @@ import unittest
 
 import built
 from built import made
-from linksim_tools.common import rate_matching
-from linksim_tools.curve.draws import drawn_places
-from model import coding, encoder
+from model import clauses, coding, encoder, pcg
 
 BOTH = built.PRACTICE.read_bytes() + built.DRAWN.read_bytes()
 TABLE = built.table(BOTH)
@@ -40,7 +38,7 @@ class Stages(unittest.TestCase):
 
     def matched(self, plan: dict[str, int], bits: bytes, length: int, tx: built.Tx, lbrm: int) -> bytes:
         """What is sent of a code block, which is coded and matched without its transport block."""
-        fillers, ncb = plan["k"] - plan["kdash"], rate_matching.buffer_length(plan, lbrm or None)
+        fillers, ncb = plan["k"] - plan["kdash"], clauses.buffer_length(plan, lbrm or None)
         d = made(plan["n"], "nr_encode", TABLE, plan["graph"], plan["z"], bits + bytes([2]) * fillers)
         return made(length, "nr_match", built.matching(plan["graph"], plan["z"], fillers, ncb, tx.rv, tx.qm), d)
 
@@ -139,7 +137,7 @@ class Erasing(unittest.TestCase):
         draw = random.Random(12)
         for count in [0, 1, 63, 64, 65, 127, 128, 129, 5000]:
             seed, threshold = draw.getrandbits(64), draw.choice([0, 1 << 31, draw.getrandbits(32), 2**32 - 1])
-            self.assertEqual(self.erased(seed, threshold, bytes(count)), drawn_places(seed, threshold, count))
+            self.assertEqual(self.erased(seed, threshold, bytes(count)), pcg.places(seed, threshold, count))
 
 
 SETTINGS = built.settings(2048)

@@ -42,13 +42,13 @@ static void answer(uint32_t seed, struct answer *to) {
     uint32_t outcome, left;
     memset(to, 0, sizeof *to);
     for (int at = 0; at < OCTETS; at++) block[at] = (uint8_t)(next(&seed) >> 24);
-    to->status = nr_crc(NR_CRC24A, block, OCTETS, &to->parity);
+    to->status = nr_crc(NR_POLY_CRC24A, block, OCTETS, &to->parity);
     if (!to->status) to->status = nr_send(table, table_len, &settings, block, OCTETS, &tx, to->bits, G);
-    for (int place = 0; place < G; place++) heard[place] = next(&seed) >> 24 < 64 ? NR_ERASED : to->bits[place];
+    for (int place = 0; place < G; place++) heard[place] = next(&seed) >> 24 < 64 ? NR_BIT_ERASED : to->bits[place];
     if (!to->status)
         to->status = nr_receive(table, table_len, &settings, 8 * OCTETS, &tx, 1, heard, G, &to->outcome, 1, &to->left, 1, to->block,
                                 OCTETS);
-    if (to->outcome == NR_DELIVERED && memcmp(to->block, block, OCTETS)) to->status = 99;
+    if (to->outcome == NR_OUTCOME_DELIVERED && memcmp(to->block, block, OCTETS)) to->status = 99;
     if (!to->status) to->status = nr_receiver_start(table, table_len, &settings, 8 * OCTETS, to->kept, KEPT);
     if (!to->status)
         to->status = nr_receiver_take(table, table_len, &settings, 8 * OCTETS, to->kept, KEPT, &tx, heard, G, &outcome, &left, 1,
@@ -81,11 +81,11 @@ static void receive_many(const NrSettings *low, const uint8_t *block) {
     }
     CHECK(nr_receive(table, table_len, &settings, 8 * OCTETS, txs, MANY, heard, sizeof heard, outcomes, MANY, left, 1, found, OCTETS) ==
           NR_OK);
-    CHECK(outcomes[MANY - 2] == NR_OPEN && outcomes[MANY - 1] == NR_DELIVERED && !memcmp(found, block, OCTETS));
-    memset(heard, NR_ERASED, sizeof heard);
+    CHECK(outcomes[MANY - 2] == NR_OUTCOME_OPEN && outcomes[MANY - 1] == NR_OUTCOME_DELIVERED && !memcmp(found, block, OCTETS));
+    memset(heard, NR_BIT_ERASED, sizeof heard);
     CHECK(nr_receive(table, table_len, low, 8 * LONG, txs, MANY, heard, sizeof heard, outcomes, MANY, left, BLOCKS, found, LONG) ==
           NR_OK);
-    CHECK(outcomes[MANY - 1] == NR_OPEN && left[BLOCKS - 1] == KDASH);
+    CHECK(outcomes[MANY - 1] == NR_OUTCOME_OPEN && left[BLOCKS - 1] == KDASH);
 }
 
 /* A receiver of the long one in a room of seven megabytes. */
@@ -94,15 +94,15 @@ static void keep_long(const NrSettings *low, const NrTx *tx) {
     static uint32_t left[BLOCKS];
     uint32_t outcome;
     size_t octets;
-    memset(heard, NR_ERASED, sizeof heard);
+    memset(heard, NR_BIT_ERASED, sizeof heard);
     CHECK(nr_receiver_size(512, 8 * LONG, &octets) == NR_OK && octets == sizeof room);
     CHECK(nr_receiver_start(table, table_len, low, 8 * LONG, room, sizeof room) == NR_OK);
     CHECK(nr_receiver_take(table, table_len, low, 8 * LONG, room, sizeof room, tx, heard, sizeof heard, &outcome, left, BLOCKS, found,
                            LONG) == NR_OK);
-    CHECK(outcome == NR_OPEN && left[BLOCKS - 1] == KDASH);
+    CHECK(outcome == NR_OUTCOME_OPEN && left[BLOCKS - 1] == KDASH);
     CHECK(nr_receive_many(table, table_len, low, 8 * LONG, tx, 1, 1, heard, sizeof heard, &outcome, 1, left, BLOCKS, found, LONG) ==
           NR_OK);
-    CHECK(outcome == NR_OPEN && left[BLOCKS - 1] == KDASH);
+    CHECK(outcome == NR_OUTCOME_OPEN && left[BLOCKS - 1] == KDASH);
 }
 
 /* A round of 344 code blocks, which stays open. */
@@ -133,12 +133,12 @@ static void *make_long_calls(void *given) {
     CHECK(count == table_len);
     free(entries);
     CHECK(nr_plan(512, 8 * LONG, &plan) == NR_OK && plan.c == BLOCKS && plan.kdash == KDASH && plan.k == K && plan.n == N);
-    CHECK(nr_crc(NR_CRC24A, block, PARITY_OCTETS, &parity) == NR_OK);
+    CHECK(nr_crc(NR_POLY_CRC24A, block, PARITY_OCTETS, &parity) == NR_OK);
     CHECK(nr_lengths(512, 8 * LONG, &tx, shares, BLOCKS) == NR_OK && shares[BLOCKS - 1] == EACH);
     CHECK(nr_buffer(&low, 8 * LONG, 3, &buffer) == NR_OK && buffer.ncb == N);
     CHECK(nr_cut(512, block, LONG, BLOCKS - 1, bits, KDASH) == NR_OK);
     CHECK(nr_codeword(table, table_len, 512, 8 * LONG, bits, KDASH, d, N) == NR_OK);
-    memset(bits + KDASH, NR_FILLER, K - KDASH);
+    memset(bits + KDASH, NR_BIT_FILLER, K - KDASH);
     CHECK(nr_encode(table, table_len, 2, 384, bits, K, again, N) == NR_OK && !memcmp(d, again, N));
     CHECK(nr_select(&low, 8 * LONG, 2, d, N, sent, EACH) == NR_OK);
     CHECK(nr_interleave(8, sent, EACH, sent + EACH, EACH) == NR_OK);
@@ -163,7 +163,7 @@ int main(int count, char **words) {
         jobs[at].seed = at + 1;
         answer(jobs[at].seed, &jobs[at].alone);
         CHECK(jobs[at].alone.status == NR_OK);
-        delivered += jobs[at].alone.outcome == NR_DELIVERED;
+        delivered += jobs[at].alone.outcome == NR_OUTCOME_DELIVERED;
     }
     CHECK(delivered > 0);
     for (int at = 0; at < THREADS; at++)

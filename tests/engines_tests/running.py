@@ -16,7 +16,7 @@ import curve_files
 import shared
 
 # Points within the fall, each of which wants all its chunks, whatever is made at a time: 24 of some 50 ms.
-RULE = {"rounds": 150, "points": [0.28, 0.285, 0.29], "step": 0, "errors": 100_000, "chunks": 8}
+RULE = {"rounds": 2000, "points": [0.28, 0.285, 0.29], "step": 0, "errors": 100_000, "chunks": 8}
 CONF = curve_files.text_of("table.csv", curve_files.LONG, RULE)
 CHUNKS = 24
 
@@ -29,7 +29,7 @@ Environment = typing.Optional[typing.Mapping[str, str]]
 class Running(shared.InFolder):
     """A test with the curve's files in its folder, and with what an engine of its own makes of them."""
 
-    wanted = ""
+    wanted, whole = "", ""
 
     def setUp(self) -> None:
         super().setUp()
@@ -90,26 +90,37 @@ class Running(shared.InFolder):
 
     def count(self) -> int:
         """How many chunks are there."""
-        return max(0, self.out.read_text().count("\n") - 1) if self.out.exists() else 0
+        return max(0, len(rows(self.out.read_text())) - 1) if self.out.exists() else 0
 
     def merged(self, path: pathlib.Path) -> str:
         """The lines of a file of results in order."""
         return shared.made("curve", "merge", path, with_program=False)
 
     def assert_same(self) -> None:
-        """The results are what this machine makes by `point`, one process a point."""
+        """The results are what this machine makes by `point`, one process a point. Their head is the same by every engine."""
         if not Running.wanted:
             words = ["0-7", "--program", self.program]
             texts = [shared.made("curve", "point", self.conf, p, *words, with_program=False) for p in (0.28, 0.285, 0.29)]
             Running.wanted = self.merged(self.file("wanted.csv", "".join(texts)))
             self.assertEqual(Running.wanted.count("\n"), 1 + CHUNKS)
-        self.assertEqual(self.out.read_text(), Running.wanted)
+        text = self.out.read_text()
+        self.assertEqual("".join(rows(text)), Running.wanted)
+        Running.whole = Running.whole or text
+        self.assertEqual(text, Running.whole)
+
+
+def rows(text: str) -> list[str]:
+    """The whole lines of a file of results without its comments."""
+    return [line for line in text.splitlines(keepends=True) if not line.startswith("#") and line.endswith("\n")]
 
 
 def children_of(pid: int) -> list[int]:
-    """The processes that a process started."""
-    text = pathlib.Path(f"/proc/{pid}/task/{pid}/children")
-    return [int(word) for word in text.read_text().split()] if text.exists() else []
+    """The processes that a process started, by any of its threads."""
+    found: list[int] = []
+    for path in pathlib.Path(f"/proc/{pid}/task").glob("*/children"):
+        with contextlib.suppress(OSError):  # the thread ended
+            found += map(int, path.read_text().split())
+    return found
 
 
 def kill(pid: int) -> None:

@@ -2,9 +2,11 @@
 
 from __future__ import annotations
 
+import contextlib
 import errno
 import fcntl
 import os
+import pathlib
 import shutil
 import signal
 import subprocess
@@ -13,7 +15,14 @@ import unittest
 import unittest.mock
 
 import shared
-from running import CHUNKS, CONF, Running, children_of
+from running import CHUNKS, CONF, Running, children_of, rows
+
+
+def words_of(pid: int) -> str:
+    """The command line of a process."""
+    with contextlib.suppress(OSError):  # it ended
+        return pathlib.Path(f"/proc/{pid}/cmdline").read_text().replace("\0", " ")
+    return ""
 
 
 class Local(Running):
@@ -82,23 +91,25 @@ class Local(Running):
 
         def program() -> None:
             shutil.copy(shared.program(), self.folder / "other")
-            with open(self.folder / "other", "ab") as file:
-                file.write(b"\0")
+            text = (self.folder / "other").read_bytes()
+            (self.folder / "other").write_bytes(text.replace(b"TS 38.212", b"TS 38.213"))
             (self.folder / "other").replace(self.program)
 
         def conf() -> None:
             self.conf.write_text(CONF.replace("seed = 3", "seed = 4"))
 
         for change, part, then in ((conf, "file", "one of the keys"), (table, "table", "the table"),
-                                   (program, "program", "the program or its library")):
+                                   (program, "program", "the library or program")):
             with self.subTest(part):
+                if change is program:  # which makes no chunk where single bits are erased
+                    self.conf.write_text(CONF.replace("rounds = 2000", "rounds = 40") + 'link = "flip"\n')
                 with self.begun(2, "--jobs", 1) as child:
                     change()
                     status, said = self.ended(child)
                 self.assertEqual(status, 1)
                 self.assertIn(f"the {part} changed while the run went on", said)
                 self.assertLess(self.count(), CHUNKS)
-                self.assertEqual(len({line.split(",")[-1] for line in self.out.read_text().splitlines()[1:]}), 1)
+                self.assertEqual(len({line.split(",")[-1] for line in rows(self.out.read_text())[1:]}), 1)
                 self.assertIn(f"{then} differs" if part != "file" else then, self.refused())
                 self.out.unlink()
             self.tearDown()
@@ -114,8 +125,55 @@ class Local(Running):
         if not shutil.which("unshare") or subprocess.run([*inside, "true"], capture_output=True).returncode:
             self.skipTest("no file system of its own can be mounted here (unshare)")
         status, said = self.told("--jobs", 1, inside=inside)
-        self.assertEqual(status, 2, said)
-        self.assertRegex(said, rf"{small}/c\.(csv|log): No space left on device\n$")
+        self.assertEqual(status, 1, said)
+        self.assertRegex(said, rf"{small}/c\.csv(\.log)?: No space left on device\n$")
+
+    def test_nothing_to_do(self) -> None:
+        """A finished file is not written again: a full disk or a folder that can only be read stops nothing, and no file is
+        left."""
+        self.run_whole("--jobs", 2)
+        (self.folder / "c.csv.log").unlink()
+        small, before = self.folder / "small", self.out
+        small.mkdir()
+        self.out = small / "c.csv"
+        begin = f"mount -t tmpfs -o size=64k tmpfs {small} && cp {before} {self.out}"
+        end = f'"$@"; status=$?; ls -A {small} >&2; exit $status'
+        for change, there in (
+            (f"cat /dev/zero > {small}/full 2> /dev/null", "c.csv\nfull\n"), (f"mount -o remount,ro {small}", "c.csv\n"),
+        ):
+            inside = ["unshare", "--user", "--map-root-user", "--mount", "sh", "-c", f"{begin} || exit 9; {change}; {end}", "sh"]
+            if not shutil.which("unshare") or subprocess.run([*inside, "true"], capture_output=True).returncode:
+                self.skipTest("no file system of its own can be mounted here (unshare)")
+            status, said = self.told("--jobs", 1, inside=inside)
+            self.assertEqual((status, said), (0, f"tools/curve: {CHUNKS} chunks are in {self.out}\n{there}"))
+        self.out = before
+
+    def test_a_full_disk_while_it_settles(self) -> None:
+        """What is half written is taken away."""
+        from linksim_tools.curve import results
+
+        self.run_whole("--jobs", 2)
+        lines = results.lines_from(self.out)
+        full = unittest.mock.patch("os.fsync", side_effect=OSError(errno.ENOSPC, "No space left on device"))
+        with full, self.assertRaisesRegex(Exception, "No space left on device"):
+            results.rewrite(self.out, [], lines[:-1])
+        self.assertEqual([path.name for path in self.folder.glob(".*")], [])
+        self.assert_same()
+
+    def test_a_process_that_is_stuck(self) -> None:
+        """After a stated time it is named, with what it makes."""
+        with self.begun(0, "--jobs", 1, "--silence", 1) as child:
+            workers: list[int] = []
+            while child.poll() is None and not workers:
+                workers = [pid for pid in children_of(child.pid) if " point " in words_of(pid)]
+            stuck = workers[0]
+            os.kill(stuck, signal.SIGSTOP)
+            assert child.stderr
+            said = next((line for line in child.stderr if "no chunk came" in line), "")
+            os.kill(stuck, signal.SIGCONT)
+            self.assertRegex(said, rf"no chunk came for \d+ seconds: waiting for process {stuck}, which makes 0\.28")
+            self.assertEqual(self.ended(child)[0], 0)
+        self.assert_same()
 
     def test_another_source_at_the_other_end(self) -> None:
         """`point` refuses what it is told of another program, table or setting, and makes nothing."""
@@ -123,7 +181,7 @@ class Local(Running):
 
         found = source.source_of(setting.read_setting(self.conf), self.program)
         parts = found.word().split("-")
-        for seat, said in enumerate(("the program", "the table", "one of the keys")):
+        for seat, said in enumerate(("the library or program", "the table", "one of the keys")):
             told = "-".join(part if at != seat else "0" * 64 for at, part in enumerate(parts))
             words = ["point", self.conf, "0.28", "0", "--told", told]
             status, output, error = shared.tool("curve", *words, "--program", self.program, with_program=False)

@@ -16,7 +16,7 @@ import unittest.mock
 import shared
 from linksim_tools.common.program import Failed
 from linksim_tools.curve.engines import slurm
-from running import SECONDS, Running, kill, skip_without
+from running import CHUNKS, SECONDS, Running, kill, skip_without
 from slurm_here import PROGRAMS, Cluster
 
 # Stand-ins: the array is over at once to squeue, and its elements run some seconds later, if at all.
@@ -46,8 +46,8 @@ class StandIn(Running):
 
     def test_an_element_that_runs_twice(self) -> None:
         """It was requeued, and still runs on a node that was taken for dead: each writes a file of its own."""
-        self.file("words", "word\n")
         script = slurm.SCRIPT.format(folder=self.folder, words="sh -c 'echo $0; sleep 1; echo $0'")
+        self.file("words", "word\n")
         environment = {**os.environ, "SLURM_JOB_ID": "7", "SLURM_ARRAY_TASK_ID": "0"}
         both = [subprocess.Popen(["sh", "-c", script], env=environment) for _ in range(2)]
         self.assertEqual([child.wait() for child in both], [0, 0])
@@ -57,12 +57,42 @@ class StandIn(Running):
         """A last line that is cut off is no whole one. If the run itself cannot write, the folder is named."""
         for number, text in enumerate(("# cost\n0.28,0,150\n", "# cost\n0.28,0,15", "0.28,0,150\n", "# cost\n")):
             self.file(f"{number}.csv", text)
-        found = slurm.written(self.folder, [[(0.28, 0)]] * 4, {0, 1, 3})
+        found = slurm.written(self.folder, [[[(0.28, 0)]]] * 4, {0, 1, 3})
         self.assertEqual([number for number, _ in found], [0])
         engine: typing.Any = slurm.Slurm.__new__(slurm.Slurm)
         full = unittest.mock.patch.object(pathlib.Path, "write_text", side_effect=OSError(errno.ENOSPC, "No space left on device"))
         with full, self.assertRaisesRegex(Failed, f"{self.folder}: No space left on device"):
-            next(engine.elements(None, self.folder, [[(0.28, 0)]]))
+            next(engine.elements(None, self.folder, [[[(0.28, 0)]]]))
+
+    def test_several_processors(self) -> None:
+        """An element makes as many batches side by side as it has processors; if one fails the element has no file."""
+        self.file("words", "one two\nno three\n")
+        script = slurm.SCRIPT.format(folder=self.folder, words="sh -c '[ $0 != no ] && echo $0'")
+        for seat, wanted in ((0, {"one", "two"}), (1, None)):
+            environment = {**os.environ, "SLURM_ARRAY_TASK_ID": str(seat)}
+            status = subprocess.run(["sh", "-c", script], env=environment).returncode
+            found = self.folder / f"{seat}.csv"
+            there = set(found.read_text().split()) if found.exists() else None
+            self.assertEqual((status == 0, there), (wanted is not None, wanted))
+        for options, count in (
+            ("-c 8", 8), ("--cpus-per-task=4 --time=5", 4), ("--cpus-per-task 2", 2), ("-c3", 3), ("--mem=1G", 1),
+        ):
+            self.assertEqual(slurm.processors_in(options.split()), count)
+
+    def test_a_run_that_is_sent(self) -> None:
+        """--detach sends the command itself, with the options of sbatch, and ends."""
+        sent = self.folder / "sent"
+        stand_in = f'echo "$*" > {sent}; cat >> {sent}; echo 9'
+        with unittest.mock.patch.dict(COMMANDS, {"sbatch": stand_in}):
+            words = ["--engine", "slurm:--partition=long -c 4", "--jobs", 8, "--detach"]
+            status, said = self.told(*words, environment=self.environment())
+        self.assertEqual((status, self.out.exists()), (0, False), said)
+        self.assertRegex(said, r"^tools/curve: the run is job 9; tools/curve status .*c\.csv says how far it is\n$")
+        options, *script = sent.read_text().splitlines()
+        wanted = r"^--parsable --partition=long -c 4 --cpus-per-task=1 --job-name=curve-run .*--output=.*/c\.csv\.run$"
+        self.assertRegex(options, wanted)
+        self.assertRegex(script[-1], rf"^exec .*tools/curve run {self.conf} .*--engine 'slurm:--partition=long -c 4' --jobs 8$")
+        self.assertIn("--detach is for --engine slurm", self.refused("--detach"))
 
     def test_files_that_are_seen_late(self) -> None:
         """They are looked for after the end; and notes are no faults."""
@@ -146,6 +176,40 @@ class Slurm(Running):
             self.assertEqual(self.ended(child)[0], 130)
         self.wait_for_none()
 
+    def test_a_run_as_a_job(self) -> None:
+        """It sends its arrays from there, and anyone can see how far it is."""
+        words = ["--engine", "slurm:--cpus-per-task=2", "--jobs", 2, "--batch", 0.3, "--detach"]
+        status, said = self.told(*words, environment=self.cluster.environment)
+        self.assertEqual(status, 0, said)
+        end, seen = time.monotonic() + SECONDS, ""
+        while (not self.out.exists() or self.count() < CHUNKS or self.jobs()) and time.monotonic() < end:
+            time.sleep(0.2)
+            if self.out.exists():
+                seen += shared.made("curve", "status", self.out, with_program=False)
+        self.assert_same()
+        self.assertRegex(seen, r"a run writes there now\n\d+ chunks of this wave are to come")
+        said = shared.made("curve", "status", self.out, with_program=False)
+        self.assertRegex(said, rf"c\.csv: {CHUNKS} chunks at 3 points, 48,000 rounds\nlast chunk .* ago, made by .*\nno run has")
+
+    def test_a_held_array(self) -> None:
+        """After a stated time it is said what Slurm waits for, and the run goes on when that is over."""
+        words = ["--engine", "slurm:--hold", "--jobs", 8, "--silence", 2]
+        with subprocess.Popen(
+            self.words(*words), stderr=subprocess.PIPE, text=True, env=self.cluster.environment
+        ) as child:
+            assert child.stderr
+            said = next((line for line in child.stderr if "no chunk came" in line), "")
+            wanted = r"note: no chunk came for \d+ seconds: waiting for job \d+ of Slurm, whose elements are: \d+ PENDING JobHeld"
+            self.assertRegex(said, wanted)
+            end = time.monotonic() + SECONDS
+            while child.poll() is None and time.monotonic() < end:
+                for job in self.jobs():
+                    self.cluster.asked("scontrol", "release", job.partition("_")[0])
+                time.sleep(0.2)
+            child.stderr.read()
+        self.assertEqual(child.returncode, 0)
+        self.assert_same()
+
     def test_a_file_system_that_caches_lookups(self) -> None:
         """The nodes see the folder itself. The run sees it as NFS shows it: what is asked for too early is not there for long."""
         mounted = f'bindfs -o negative_timeout=30 {self.folder} {self.folder} && exec "$@"'
@@ -161,4 +225,4 @@ class Slurm(Running):
         self.assertIn("sbatch: ", said)
         (self.folder / "table.csv").write_text("no table\n")
         said = self.refused("--engine", "slurm", environment=self.cluster.environment)
-        self.assertRegex(said, "lost 3 times: .*table.* is not that of the run|lost 3 times: .*no shift table|refused")
+        self.assertRegex(said, "lost 3 times: .*table.* is not that of the run|lost 3 times: .*no shift table|rejected")

@@ -38,8 +38,9 @@ class Snippets(shared.InFolder):
 
     def test_every_command(self) -> None:
         blocks = BLOCKS.findall(PAGE.read_text())
-        self.assertEqual(len(blocks), 6)
+        self.assertEqual(len(blocks), 8)
         folder = documents.top(self.folder / "top")
+        (folder / "c").symlink_to(shared.ROOT / "c")
         (folder / "examples" / "curve.toml").write_text(CONF)
         environment = {**self.hosts.environment, **self.cluster.environment}
         environment["PARALLEL_SSH"] = self.hosts.environment["PARALLEL_SSH"]
@@ -49,7 +50,7 @@ class Snippets(shared.InFolder):
             text = block.replace("sbatch -c 64", "sbatch --wait -c 2").replace("--jobs 64", "--jobs 2")
             text = text.replace("dask:scheduler.example:8786", f"dask:{self.scheduler.address}")
             # Each run makes its results itself.
-            text = re.sub(r"(?m)^(.*tools/curve run )", r"rm -f curve.csv; \1", text)
+            text = re.sub(r"(?m)^(.*tools/curve run examples)", r"rm -f curve.csv; \1", text)
             ended = subprocess.run(
                 ["bash", "-e", "-c", text], cwd=folder, env=environment, capture_output=True, text=True,
                 timeout=shared.SECONDS,

@@ -2,10 +2,15 @@
 
 from __future__ import annotations
 
+import contextlib
+import io
+import math
 import os
+import unittest.mock
 
 import curve_files
 from hosts_here import PROGRAMS, Hosts
+from linksim_tools.curve.engines import ssh
 from running import RULE, Running, skip_without
 
 
@@ -37,6 +42,25 @@ class StandIn(Running):
         *asked, called = self.asked("8/one.example,16/two.example:2222")
         self.assertRegex(called, r"--sshlogin 8/one\.example,12/two\.example:2222 --sshdelay (?!0\.0)")
         self.assertEqual([line.split()[-4:] for line in asked if "two" in line], [["-p", "2222", "two.example", "true"]])
+
+    def test_a_machine_that_says_nothing(self) -> None:
+        """It costs its timeout once, however many waves there are."""
+        asked: list[str] = []
+
+        def login(host: str) -> float | None:
+            asked.append(host)
+            return {"silent.example": math.inf, "refusing.example": None}.get(host, 0.1)
+
+        with unittest.mock.patch.object(ssh, "has_gnu_parallel", return_value=True):
+            engine = ssh.Ssh("1/one.example,1/silent.example,1/refusing.example")
+        with unittest.mock.patch.object(ssh, "login", login), contextlib.redirect_stderr(io.StringIO()) as said:
+            for _ in range(3):
+                self.assertEqual(engine.answering(), {"one.example": 0.1})
+            self.assertEqual([asked.count(f"{name}.example") for name in ("one", "silent", "refusing")], [3, 1, 3])
+            self.assertEqual(said.getvalue().count("silent.example did not answer within 60 seconds, and is left out"), 1)
+            with unittest.mock.patch.object(engine, "counts", {"silent.example": 1}):
+                self.assertEqual(engine.answering(), {})
+        self.assertEqual(asked.count("silent.example"), 1)
 
     def test_words(self) -> None:
         for name in ("ssh:", "ssh:2/", "ssh:0/a", "ssh:a/b/c", "slow", "dask:", "local:2", "slurm:'"):

@@ -7,9 +7,8 @@ import dataclasses
 import functools
 import typing
 
-from linksim_tools.common import rate_matching
-from linksim_tools.common.graphs import GRAPHS
-from model import coding, encoder
+from model import clauses, coding, encoder
+from model.clauses import GRAPHS
 
 
 @dataclasses.dataclass(frozen=True)
@@ -64,12 +63,12 @@ class Coded:
         """The code block and the position of each place of a transmission (5.4.2, 5.5)."""
         plan = self.plan
         scheduled = [r for r in range(plan["c"]) if tx.mask is None or r in tx.mask]
-        ncb = rate_matching.buffer_length(plan, self.lbrm)
-        start = rate_matching.start(plan, ncb, tx.rv)
+        ncb = clauses.buffer_length(plan, self.lbrm)
+        start = clauses.start(plan, ncb, tx.rv)
         first = 2 * plan["z"]
         d = [None if self.fillers >> position & 1 else position for position in range(first, first + plan["n"])]
         found = []
-        for r, count in rate_matching.lengths(tx.g, tx.qm, tx.nl, scheduled).items():
+        for r, count in clauses.lengths(tx.g, tx.qm, tx.nl, scheduled).items():
             chosen = encoder.interleaved(encoder.selected(d, start, ncb, count), tx.qm)
             found += [(r, position) for position in chosen]
         return found

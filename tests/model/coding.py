@@ -6,9 +6,8 @@ from __future__ import annotations
 import csv
 import typing
 
-from linksim_tools.common import rate_matching
-from linksim_tools.common.graphs import GRAPHS
-from model import encoder
+from model import clauses, encoder
+from model.clauses import GRAPHS
 
 # The lifting sizes of Table 5.3.2-1, each with its set index.
 SETS = {a << j: index for index, a in enumerate((2, 3, 5, 7, 9, 11, 13, 15)) for j in range(8) if a << j <= 384}
@@ -69,11 +68,11 @@ def sent(text: bytes, octets: bytes, tx: typing.Any, rate2048: int, lbrm: int = 
     numbers = plan(8 * len(octets), rate2048)
     entries = tables(text)[numbers["graph"]]
     scheduled = [r for r in range(numbers["c"]) if not tx.some or tx.blocks[r // 64] >> r % 64 & 1]
-    ncb = rate_matching.buffer_length(numbers, lbrm or None)
-    start = rate_matching.start(numbers, ncb, tx.rv)
+    ncb = clauses.buffer_length(numbers, lbrm or None)
+    start = clauses.start(numbers, ncb, tx.rv)
     blocks = code_blocks(octets, numbers)
     bits: list[int] = []
-    for r, count in rate_matching.lengths(tx.g, tx.qm, tx.nl, scheduled).items():
+    for r, count in clauses.lengths(tx.g, tx.qm, tx.nl, scheduled).items():
         d = coded(entries, numbers, blocks[r])
         bits += encoder.interleaved(encoder.selected(d, start, ncb, count), tx.qm)
     return bytes(bits)

@@ -12,9 +12,13 @@ import typing
 import unittest
 
 ROOT = pathlib.Path(__file__).resolve().parent.parent.parent
+sys.path.append(str(ROOT / "c"))
+
+import nr_version  # noqa: E402  (it is in a folder that was just named)
+
 PROGRAM = ROOT / "crates" / "linksim" / "out" / "linksim"
 ARCHIVE = ROOT / "crates" / "nr_c" / "out" / "libnr_c.a"
-VERSION = (ROOT / "VERSION").read_text().strip()
+VERSION = nr_version.declared()
 FOLDER = pathlib.Path(tempfile.mkdtemp(prefix="linksim-packages-"))
 DIST = FOLDER / "dist"
 SECONDS = 600

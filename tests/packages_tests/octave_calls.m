@@ -8,9 +8,12 @@ numbers();
 receptions(table);
 many(table);
 taken(table);
+soft(table);
 simulated(table);
 refusals(table);
-same(nr_practice, table);
+both = nr_practice;
+same(size(both), [11 421]);
+same(both(:, 317:end), table);
 odd_arguments(table);
 by_hand();
 disp('octave_calls: ok');
@@ -55,7 +58,7 @@ same(nr_buffer(72, 1, 0, 300), 450);
 same(nr_crc(bits('01'), '16'), bits('1021'));
 same(nr_crc(logical(bits('01')), '24a'), logical(bits('864cfb')));
 same(nr_crc(bits('0001'), '24B'), bits('800063'));
-same(nr_hard([3 -2 0.5 -0.5 0 NaN]), [0 1 0 1 NaN NaN]);
+same(nr_hard([3 -2 0.5 -0.5 0 NaN], 0), [0 1 0 1 NaN NaN]);
 same(nr_hard([3; -2; 0.5; -0.5; -Inf], 1), [0; 1; NaN; NaN; 1]);
 end
 
@@ -68,7 +71,7 @@ same(found, block);
 same(outcomes, {'open'; 'delivered'});
 same(left, 0);
 same(nr_receive(table, 8, 1, tx(1), logical(sent)), logical(block));
-same(nr_receive(table, 8, 1, tx(1), nr_hard(4 - 8 * sent)), block);
+same(nr_receive(table, 8, 1, tx(1), nr_hard(4 - 8 * sent, 0)), block);
 sent(8) = 1 - sent(8);
 [found, outcomes] = nr_receive(table, 8, 1, tx(1), sent);
 same({found, outcomes}, {[], {'contradiction'}});
@@ -149,11 +152,43 @@ refused('nr:Length', @() nr_simulate(table, 8, 1, txs, 0.5, 1));
 refused('nr:Rv', @() nr_simulate(table, 8, 1, struct('g', 4, 'qm', 1, 'rv', 4), 0.5, 1));
 end
 
+function soft(table)
+% Rate recovery and joining, of one code block and of three.
+for it = {bits('01'), struct('g', 40, 'qm', 2), 1; mod((1:7656)' .^ 2, 7) < 3, struct('g', 6000, 'qm', 4, 'nl', 2, 'rv', 2), 0.25}'
+  [block, tx, rate] = it{:};
+  a = numel(block);
+  blocks = nr_cut(block, rate);
+  words = nr_codeword(table, blocks, a, rate);
+  same(words(nr_places(a, rate, tx)), double(nr_send(table, block, rate, tx)));
+  [joined, passed, blockpassed] = nr_join(blocks, a, rate);
+  same(joined, block);
+  same({passed, blockpassed}, {true(size(blocks, 2), 1), true});
+  blocks(1, 1) = ~blocks(1, 1);
+  [joined, passed, blockpassed] = nr_join(blocks, a, rate);
+  same({sum(joined ~= block), passed(1), all(passed(2:end)), blockpassed}, {1, false, true, false});
+end
+same(nr_places(8, 1, struct('g', 40, 'qm', 2))(1:4), [1; 37; 2; 38]);
+refused('nr:Length', @() nr_join(zeros(23, 1), 8, 1));
+refused('nr:Ragged', @() nr_places(8, 1, struct('g', 25, 'qm', 2)));
+end
+
 function refusals(table)
 block = bits('01');
 tx = struct('g', 24, 'qm', 1);
-said = refused('nr:RateRange', @() nr_plan(8, 0.3));
-same(said, 'RateRange: the target code rate is no whole number of 2048ths: next to it are 614/2048 and 615/2048');
+% between 2048ths a rate takes the base graph that 6.2.2 gives this rate
+for it = {1/3, 2; 0.67, 2; single(0.67), 2; 0.67 + eps, 1; 0.3, 2; 1e-9, 2; 1, 1}'
+  same(nr_plan(3824, it{1}).graph, it{2});
+end
+same(nr_plan(3840, 0.25 + eps).graph, 1);
+[below, above] = nr_near(7640, 0.25);
+same([below above], [7632 7656]);
+[below, above] = nr_near(2000000, 0.25);
+same(below, 1310616);
+same(isempty(above), true);
+said = refused('nr:Uneven', @() nr_plan(7640, 0.25));
+same(isempty(strfind(said, 'nr_near(7640, RATE)')), false);
+said = refused('nr:Graph', @() nr_send(table, zeros(4000, 1), 1, tx));
+same(isempty(strfind(said, 'base graph 1')), false);
 refused('nr:RateRange', @() nr_plan(8, 2));
 refused('nr:Size', @() nr_plan(12, 1));
 refused('nr:Size', @() nr_send(table, block(1:7), 1, tx));
@@ -185,7 +220,12 @@ refused('nr:argument', @() nr_send(double(table), block, 1, tx));
 refused('nr:argument', @() nr_send(table, block, 1, struct('g', 2.5, 'qm', 1)));
 refused('nr:argument', @() nr_send(table, block, 1, struct('g', 24, 'qm', 1, 'blocks', 384)));
 refused('nr:argument', @() nr_receive(table, 8, 1, tx, 2 * ones(24, 1)));
-refused('nr:argument', @() nr_hard(1, -1));
+refused('nr:argument', @() nr_hard(2, -1));
+for given = {true, [0 1 1], uint8([3 200]), logical([0 1])}
+  said = refused('nr:argument', @() nr_hard(given{1}, 0));
+  same(isempty(regexp(said, 'decisions|unsigned', 'once')), false);
+end
+refused('nr:argument', @() nr_hard([3 -2]));
 refused('nr:argument', @() nr_lengths(8, 1, struct('g', -1, 'qm', 1)));
 refused('nr:Ragged', @() nr_lengths(8, 1, struct('g', 25, 'qm', 2)));
 refused('nr:Size', @() nr_lengths(12, 1, tx));

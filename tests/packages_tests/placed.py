@@ -13,7 +13,7 @@ EXAMPLES = made.ROOT / "c" / "examples"
 TABLE = made.ROOT / "examples" / "practice.csv"
 CMAKE = """cmake_minimum_required(VERSION 3.10)
 project(erasures C)
-find_package(nr 2 REQUIRED)
+find_package(nr 3 REQUIRED)
 if(NOT nr_VERSION STREQUAL "{version}")
   message(FATAL_ERROR "nr_VERSION is ${{nr_VERSION}}")
 endif()
@@ -33,13 +33,16 @@ class Placed(made.InFolder):
         answer = made.done([bin_folder / "linksim", "cut", "--blocks", "-"], stdin=b"01\n")
         self.assertTrue(answer.endswith("code 1 0 011021\n"), answer)
 
-    def tools(self, bin_folder: typing.Any, examples: typing.Any) -> None:
+    def tools(self, bin_folder: typing.Any, examples: typing.Any, **places: typing.Any) -> None:
         """Each tool, over the program beside it."""
-        self.assertIn("near", made.done([bin_folder / "linksim-vectors", "--help"]))
-        self.assertIn(" graph 1 ", made.done([bin_folder / "linksim-vectors", "--near", "100000"]))
-        prints = made.done([bin_folder / "linksim-table", "fingerprint", examples / "practice.csv"])
+        environment = made.without_kit(**places)
+        self.assertIn("near", made.done([bin_folder / "linksim-vectors", "--help"], environment=environment))
+        self.assertIn(" graph 1 ", made.done([bin_folder / "linksim-vectors", "near", "100000"], environment=environment))
+        words = [bin_folder / "linksim-table", "fingerprint", "--table", examples / "practice.csv"]
+        prints = made.done(words, environment=environment)
         self.assertEqual(prints.count("\n"), 8)
-        status, answer = made.ran([bin_folder / "linksim-curve", "point", examples / "curve.toml", "0", "0"])
+        words = [bin_folder / "linksim-curve", "point", examples / "curve.toml", "0", "0"]
+        status, answer = made.ran(words, environment=environment)
         if status and "tomli" in answer:
             return
         self.assertEqual(status, 0)
@@ -80,7 +83,7 @@ class Placed(made.InFolder):
         version = made.done([python, "-c", "import nr; print(nr.__version__)"], environment=environment, folder=self.folder)
         self.assertEqual(version, made.VERSION + "\n")
         said = made.done([python, "-m", "nr.table", "read", "--help"], environment=environment, folder=self.folder)
-        self.assertIn("python -m nr.table read 38212-f20.docx > table.csv", said)
+        self.assertIn("python -m nr.table read 38212-f20.docx --out table.csv", said)
 
     def reads_tables(self, python: typing.Any, **places: typing.Any) -> None:
         """The module alone makes a table of the standard's text; here the text has drawn numbers."""

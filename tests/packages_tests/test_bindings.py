@@ -11,14 +11,11 @@ import unittest
 import made
 from placed import TABLE, Placed
 
-HEADER = (made.ROOT / "c" / "nr.h").read_text()
 RUST = made.ROOT / "c" / "rust"
 OCTAVE = made.ROOT / "c" / "octave"
 # A text or a comment of a file for Octave and MATLAB, and what only Octave reads outside of them.
 QUOTED = re.compile(r"(?<![\w)\]}'])'(?:[^'\n]|'')*'|%.*")
 OF_OCTAVE = re.compile(r"[\"#!]|\+\+|--|[-+*/|&^]=|\*\*|\b(?:end[a-z_]+|printf|puts|do|until|unwind_protect)\b")
-# What C's types are called in Rust: `const T *` and `T *` of each.
-TYPES = {"uint8_t": "u8", "uint32_t": "u32", "uint64_t": "u64", "size_t": "usize", "char": "c_char"}
 
 
 def blocks(name: str) -> typing.List[typing.Tuple[str, str]]:
@@ -27,41 +24,8 @@ def blocks(name: str) -> typing.List[typing.Tuple[str, str]]:
     return re.findall(r"(?ms)^```(\w*)\n(.*?)^```$", text)
 
 
-def in_rust(parameter: str) -> str:
-    """A parameter of nr.h, or what a call answers, as Rust writes its type."""
-    words = parameter.replace("*", " * ").split()
-    const, pointer = "const" in words, "*" in words
-    name = next(word for word in words if word not in ("const", "NR_CHECKED", "struct"))
-    plain = TYPES.get(name, name[2:] if name.startswith("Nr") else name)
-    return f"*{'const' if const else 'mut'} {plain}" if pointer else plain
-
-
 class Declared(unittest.TestCase):
     """What the bindings repeat of nr.h and of the Python module is what stands there."""
-
-    def test_calls(self) -> None:
-        """Each call that raw.rs declares takes and answers what it does in nr.h."""
-        said = {}
-        for answer, name, takes in re.findall(r"(?m)^(?:NR_CHECKED )?([\w ]+ \*?)(nr_\w+)\(([^)]*)\);", HEADER):
-            kinds = [] if takes == "void" else [in_rust(it) for it in takes.split(",")]
-            said[name] = (kinds, in_rust(answer))
-        raw = re.sub(r"\s+", " ", (RUST / "src" / "raw.rs").read_text())
-        declared = re.findall(r"fn (nr_\w+)\(([^)]*)\) -> ([^;]+);", raw)
-        for name, takes, answer in declared:
-            kinds = [it.split(": ")[1].strip() for it in takes.split(",") if it.strip()]
-            with self.subTest(name):
-                self.assertEqual((kinds, answer), said[name])
-        self.assertEqual({name for name, *_ in declared}, set(said) - {"nr_fault_name"})
-
-    def test_structs(self) -> None:
-        """Each struct has nr.h's members, in their order."""
-        sources = "".join((RUST / "src" / name).read_text() for name in ("raw.rs", "table.rs"))
-        for name, body in re.findall(r"typedef struct Nr(\w+) \{(.*?)\n\}", HEADER, re.S):
-            found = re.search(rf"(?m)^(?:#\[repr\(C\)\]\n.*\npub struct|   ) {name} \{{([^}}]*)\}}", sources)
-            with self.subTest(name):
-                assert found, name
-                members = re.findall(r"(\w+): [u\[]", found[1])
-                self.assertEqual(members, re.findall(r"(?m)^ {4}\w+ (\w+)(?:\[\d\])?;", body))
 
     def test_syntax(self) -> None:
         """The files for Octave, and the lines of their document, have nothing that MATLAB would not read."""
@@ -74,7 +38,7 @@ class Declared(unittest.TestCase):
     def test_heads(self) -> None:
         """docs/rust.md has the head of each call as it stands in the sources, with the type that a method is of."""
         text, found = (made.ROOT / "docs" / "rust.md").read_text(), set()
-        for name in ("calls", "many", "receiver", "simulation", "table"):
+        for name in ("calls", "many", "packed", "receiver", "simulation", "soft", "table"):
             owner = ""
             for line in re.sub(r"\(\n +", "(", (RUST / "src" / f"{name}.rs").read_text()).splitlines():
                 owner = (re.findall(r"^impl (\w+) ", line) or [owner])[0]

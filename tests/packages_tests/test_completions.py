@@ -46,7 +46,7 @@ OF_TOOLS = {
     "linksim-curve mer": "merge",
     "linksim-curve run --jo": "--jobs",
     "linksim-table fi": "fingerprint",
-    "linksim-vectors --setti": "--settings",
+    "linksim-vectors one --setti": "--settings",
     "linksim-explain --sche": "--schedule",
     "linksim-explain NoBuf": "NoBuffer",
     "linksim-explain abo": "about",

@@ -14,7 +14,7 @@ import tarfile
 import made
 from placed import Placed
 
-SOURCES = ["Makefile", "VERSION", "CHANGELOG.md", "CONTRIBUTING.md", "README.md"]
+SOURCES = ["Makefile", "VERSION", "CHANGELOG.md", "CONTRIBUTING.md", "README.md", "SECURITY.md"]
 SOURCES += ["docs", "c", "tools", "examples", "packaging"]
 
 COMPLETIONS = [
@@ -24,7 +24,7 @@ COMPLETIONS = [
 ]
 # One folder for each loop of both Makefiles.
 BLOCKED = [
-    "linksim/tools/linksim_tools/common", "linksim/examples/rtl", "doc/linksim/docs", "nr/nr", "nr/rust/src",
+    "nr/linksim_tools/common", "linksim/examples/rtl", "doc/linksim/docs", "nr/nr", "nr/rust/src",
 ]
 
 
@@ -48,16 +48,18 @@ class Same(made.InFolder):
             else:
                 top.mkdir(exist_ok=True)
                 shutil.copyfile(made.ROOT / name, top / name)
-        for path in (made.PROGRAM, made.ARCHIVE, *made.ROOT.glob("crates/*/README.md")):
+        for path in (made.PROGRAM, *made.ROOT.glob("crates/nr_c/out/libnr_c*.a"), *made.ROOT.glob("crates/*/README.md")):
             to = top / path.relative_to(made.ROOT)
             to.parent.mkdir(parents=True, exist_ok=True)
-            shutil.copy(path, to)
+            # With its time, because make takes the second archive only if it is newer than the first.
+            shutil.copy2(path, to)
         (top / "dist" / "site").mkdir(parents=True)
         (top / "dist" / "site" / "index.html").touch()
         with tarfile.open(next(made.DIST.glob("*.tar.gz"))) as tar:
             file = tar.extractfile(next(it for it in tar.getnames() if it.endswith("/built.json")))
             assert file
-            commit = json.load(file).get("commit", "")
+            built = json.load(file)
+        commit = f"{built.get('commit', '')}@{built.get('time', '')}"
         environment = {**os.environ, "LINKSIM_COMMIT": commit, "TZ": "Asia/Tokyo", "LC_ALL": "C.UTF-8", "HOME": str(self.folder)}
         subprocess.run(
             ["sh", "-c", "umask 077; make -s dist"], cwd=top, env=environment, check=True, timeout=made.SECONDS,
@@ -91,16 +93,17 @@ class Old(made.InFolder):
     """What is older than its sources is built anew."""
 
     def test_wheel(self) -> None:
-        for name, text in {"Makefile": "out/libnr.so.2: nr.h\n\tcp nr.h $@\n", "nr.h": "new", "out/libnr.so.2": "old"}.items():
+        for name, text in {"Makefile": "all: out/libnr.so.3\nout/libnr.so.3: nr.h\n\tcp nr.h $@\n", "nr.h": "new", "out/libnr.so.3": "old"}.items():
             (self.folder / name).parent.mkdir(exist_ok=True)
             (self.folder / name).write_text(text)
-        os.utime(self.folder / "out" / "libnr.so.2", (0, 0))
-        shutil.copy(made.ROOT / "c" / "nr_build.py", self.folder)
-        said = made.done([sys.executable, "-c", "import nr_build; print(nr_build.library())"], self.folder)
+        os.utime(self.folder / "out" / "libnr.so.3", (0, 0))
+        for name in ("nr_build.py", "nr_version.py"):
+            shutil.copy(made.ROOT / "c" / name, self.folder)
+        said = made.done([sys.executable, "-c", "import nr_build; print(*nr_build.libraries().values())"], self.folder)
         self.assertEqual(said, "b'new'\n")
 
     def test_library(self) -> None:
-        words = ["make", "-n", "-C", made.ROOT / "c", "-W", "octave/nr_sentences.h", "out/libnr.so.2"]
+        words = ["make", "-n", "-C", made.ROOT / "c", "-W", "octave/nr_sentences.h", "out/libnr.so.3"]
         self.assertIn("fault_name.o", made.done(words))
 
 
@@ -116,7 +119,7 @@ class Installed(Placed):
         self.program(top / "bin")
         self.tools(top / "bin", top / "share" / "linksim" / "examples")
         self.assertTrue((top / "share" / "man" / "man1" / "linksim-curve.1").is_file())
-        self.assertEqual((top / "lib" / "libnr.so.2").stat().st_mode & 0o777, 0o644)
+        self.assertEqual((top / "lib" / "libnr.so.3").stat().st_mode & 0o777, 0o644)
         for name in COMPLETIONS:
             self.assertTrue((top / "share" / name).is_file(), name)
         self.make("uninstall")

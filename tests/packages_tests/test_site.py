@@ -100,7 +100,7 @@ class Documents(made.InFolder):
     def test_places(self) -> None:
         for package, names in {
             "linksim": ["share/doc/linksim/docs/formats.md", "share/doc/linksim/README.md", "share/man/man5/linksim-formats.5.gz",
-                        "share/linksim/tools/built.json", "share/bash-completion/completions/linksim-conform"],
+                        "share/linksim/built.json", "share/bash-completion/completions/linksim-conform"],
             "linksim-doc": ["share/doc/linksim/html/index.html", "share/doc/linksim/html/search/index.js"],
             "libnr-dev": ["share/doc/libnr-dev/examples/erasures.c"],
             "python3-nr": ["share/doc/python3-nr/examples/erasures.py"],
@@ -112,7 +112,7 @@ class Documents(made.InFolder):
 
     def test_formats(self) -> None:
         """linksim-formats(5) has every line of output and every fault of docs/formats.md, and man takes it without a word."""
-        made.done(["make", "-s", "-C", made.ROOT, "install-program", "PREFIX=/usr", f"DESTDIR={self.folder}"])
+        made.done(["make", "-s", "-C", made.ROOT, "install", "PREFIX=/usr", f"DESTDIR={self.folder}"])
         page = self.folder / "usr" / "share" / "man" / "man5" / "linksim-formats.5"
         man = made.needs("man")
         environment = made.without_kit(MANWIDTH=200, LC_ALL="C.UTF-8", HOME=self.folder)
@@ -124,7 +124,7 @@ class Documents(made.InFolder):
 
     def test_examples_of_help(self) -> None:
         """The examples that an installed tool's help shows are files that are there."""
-        made.done(["make", "-s", "-C", made.ROOT, "install-program", "PREFIX=/usr", f"DESTDIR={self.folder}"])
+        made.done(["make", "-s", "-C", made.ROOT, "install", "PREFIX=/usr", f"DESTDIR={self.folder}"])
         tools = self.folder / "usr" / "bin"
         for tool in ("curve", "explain", "vectors"):
             said = made.done([tools / f"linksim-{tool}", "--help"], self.folder)

@@ -5,20 +5,33 @@ from __future__ import annotations
 import json
 import pathlib
 import re
+import shutil
 import sys
 import tarfile
 import tempfile
 import zipfile
 
 import made
+import nr_version
 from placed import Placed
 
-NAME = f"linksim-{made.VERSION}-x86_64-linux"
+NAME = f"linksim-{nr_version.for_archive()}-x86_64-linux"
 TRIPLET = "x86_64-linux-gnu"
 
 
 # A vector of the practice table, from the folder of examples.
-VECTOR = ["--table", "practice.csv", "--settings", "settings.toml", "--blocks", "blocks.txt", "--rv", "0", "--g", "24", "--qm", "1"]
+VECTOR = ["one", "--table", "practice.csv", "--settings", "settings.toml", "--blocks", "blocks.txt", "--rv", "0", "--g", "24", "--qm", "1"]
+
+
+def pythons() -> list[pathlib.Path]:
+    """The oldest and the newest Python from 3.8 on that are here, in PATH or of pyenv."""
+    named = [shutil.which(f"python3.{minor}") for minor in range(8, 20)]
+    found: dict[tuple[int, ...], pathlib.Path] = {}
+    for path in [*map(pathlib.Path, filter(None, named)), *pathlib.Path.home().glob(".pyenv/versions/*/bin/python3")]:
+        status, said = made.ran([path, "-c", "import sys; print(*sys.version_info[:2])"])
+        if not status and tuple(map(int, said.split())) >= (3, 8):
+            found[tuple(map(int, said.split()))] = path
+    return [found[version] for version in sorted(found)][:: max(1, len(found) - 1)]
 
 
 def glibc_of(path: pathlib.Path) -> tuple[int, ...]:
@@ -42,7 +55,7 @@ class Archive(Placed):
         self.assertEqual(names, sorted(names))
         self.assertEqual({(member.uid, member.gid, member.uname) for member in self.members}, {(0, 0, "root")})
         self.assertEqual(len({member.mtime for member in self.members}), 1)
-        self.assertEqual((self.top / "lib" / "libnr.so.2").stat().st_mode & 0o777, 0o644)
+        self.assertEqual((self.top / "lib" / "libnr.so.3").stat().st_mode & 0o777, 0o644)
         for path in self.top.glob("**/*"):
             self.assertTrue(path.exists(), path)
             if path.is_file():
@@ -51,7 +64,7 @@ class Archive(Placed):
     def test_program_and_tools(self) -> None:
         self.program(self.top / "bin")
         self.tools(self.top / "bin", self.top / "examples")
-        self.assertIn(" graph 1 ", made.done(["tools/vectors", "--near", "100000"], self.top))
+        self.assertIn(" graph 1 ", made.done(["tools/vectors", "near", "100000"], self.top))
 
     def test_commit(self) -> None:
         """The commit is that which was packed, and not that of a repository in which the archive was unpacked."""
@@ -59,7 +72,7 @@ class Archive(Placed):
         made.done([*git, "init", "-q"])
         made.done([*git, "commit", "-q", "--allow-empty", "-m", "nothing"])
         said = json.loads(made.done([self.top / "bin" / "linksim-vectors", *VECTOR], self.top / "examples"))["made"]
-        built = json.loads((self.top / "share" / "linksim" / "tools" / "built.json").read_text())
+        built = json.loads((self.top / "share" / "linksim" / "built.json").read_text())
         self.assertEqual(said.get("commit"), built.get("commit"))
         self.assertNotEqual(said.get("commit"), made.done([*git, "rev-parse", "HEAD"]).strip())
 
@@ -101,16 +114,16 @@ class Debian(Placed):
         top = self.folder / NAME
         for one, others in {
             top / "bin" / "linksim": [self.root / "usr" / "bin" / "linksim"],
-            top / "lib" / "libnr.so.2": [self.library / "libnr.so.2", self.folder / "nr" / "libnr.so.2"],
+            top / "lib" / "libnr.so.3": [self.library / "libnr.so.3", self.folder / "nr" / "libnr.so.3"],
         }.items():
             self.assertEqual([it.read_bytes() == one.read_bytes() for it in others], [True] * len(others))
-        wanted = [glibc_of(path) for path in (top / "bin" / "linksim", top / "lib" / "libnr.so.2")]
-        for package, version in zip(("linksim", "libnr2"), wanted):
+        wanted = [glibc_of(path) for path in (top / "bin" / "linksim", top / "lib" / "libnr.so.3")]
+        for package, version in zip(("linksim", "libnr3"), wanted):
             control = made.done(["dpkg-deb", "-f", next(made.DIST.glob(f"{package}_*.deb")), "Depends"])
             self.assertIn("libc6 (>= {}.{})".format(*version), control)
         said = (made.ROOT / "docs" / "install.md").read_text().replace("\n", " ")
         self.assertIn("program needs glibc {}.{}".format(*wanted[0]), said)
-        self.assertIn("libraries need {}.{}, the wheel {}.{}.".format(*wanted[1], *max((2, 17), wanted[1])), said)
+        self.assertIn("the libraries {}.{} and the wheel {}.{}.".format(*wanted[1], *max((2, 17), wanted[1])), said)
 
     def test_compiled(self) -> None:
         """What Python keeps of the module comes with the package, and goes with it."""
@@ -128,11 +141,13 @@ class Debian(Placed):
     def test_names(self) -> None:
         names = [path.name.split("_")[0] for path in self.packages]
         # The site is left out if mkdocs is not there.
-        self.assertEqual([it for it in names if it != "linksim-doc"], ["libnr-dev", "libnr2", "linksim", "python3-nr"])
+        self.assertEqual([it for it in names if it != "linksim-doc"], ["libnr-dev", "libnr3", "linksim", "python3-nr"])
 
     def test_program_and_tools(self) -> None:
         self.program(self.root / "usr" / "bin")
-        self.tools(self.root / "usr" / "bin", self.root / "usr" / "share" / "linksim" / "examples")
+        # Where Debian's Python looks for packages, and ld.so for libraries, if they are not installed at the root.
+        places = {"PYTHONPATH": self.root / "usr" / "lib" / "python3" / "dist-packages", "LD_LIBRARY_PATH": self.library}
+        self.tools(self.root / "usr" / "bin", self.root / "usr" / "share" / "linksim" / "examples", **places)
 
     def test_pkg_config(self) -> None:
         places = {"PKG_CONFIG_SYSROOT_DIR": self.root, "PKG_CONFIG_LIBDIR": self.library / "pkgconfig"}
@@ -176,9 +191,9 @@ class Wheel(Placed):
         wheel = next(made.DIST.glob("*.whl"))
         with zipfile.ZipFile(wheel) as packed:
             packed.extractall(self.folder)
-        wanted = max((2, 17), glibc_of(self.folder / "nr" / "libnr.so.2"))
+        wanted = max((2, 17), glibc_of(self.folder / "nr" / "libnr.so.3"))
         platforms = ["manylinux_{}_{}_x86_64".format(*wanted), *(["manylinux2014_x86_64"] if wanted == (2, 17) else [])]
-        self.assertEqual(wheel.name, f"nr-{made.VERSION}-py3-none-{'.'.join(platforms)}.whl")
+        self.assertEqual(wheel.name, f"nr-{nr_version.for_python()}-py3-none-{'.'.join(platforms)}.whl")
         marks = next(self.folder.glob("*.dist-info/WHEEL")).read_text()
         self.assertEqual(re.findall(r"(?m)^Tag: py3-none-(.*)$", marks), platforms)
 
@@ -186,6 +201,28 @@ class Wheel(Placed):
         """As an index of packages asks for it."""
         said = made.done([made.needs("twine"), "check", "--strict", next(made.DIST.glob("*.whl"))])
         self.assertIn("PASSED", said)
+
+    def entry_points(self, folder: pathlib.Path) -> None:
+        """Each tool says what it does; one that needs no program works, and one that does says in a line that it lacks it."""
+        table = folder.parent / "share" / "linksim" / "examples" / "practice.csv"
+        for tool in ("certify", "conform", "curve", "explain", "table", "vectors", "verify"):
+            said = made.done([folder / f"linksim-{tool}", "--help"], self.folder)
+            self.assertIn(f"usage: linksim-{tool} ", said)
+            self.assertNotIn("tools/", said)
+        self.assertEqual(made.done([folder / "linksim-explain", "Header"]).count("\n"), 3)
+        status, said = made.ran([folder / "linksim-explain", "check", "--table", table])
+        self.assertEqual((status, said.count("\n")), (1, 1), said)
+        self.assertIn("the package linksim has it, or --program names it", said)
+
+    def test_oldest_and_newest(self) -> None:
+        """The entry points run in empty environments of the oldest and of the newest Python."""
+        for number, python in enumerate(pythons()):
+            with self.subTest(str(python)):
+                folder = self.folder / str(number)
+                made.done([python, "-m", "venv", folder])
+                words = ["-m", "pip", "install", "--no-index", "--disable-pip-version-check", *made.DIST.glob("*.whl")]
+                made.done([folder / "bin" / "python", *words])
+                self.entry_points(folder / "bin")
 
     def test_wheel_and_folder(self) -> None:
         status, said = made.ran([sys.executable, "-m", "venv", self.folder / "venv"])
@@ -197,5 +234,23 @@ class Wheel(Placed):
                 made.done([python, "-m", "pip", "install", "--no-index", "--disable-pip-version-check", given])
                 self.by_python(python)
                 self.reads_tables(python)
+                self.entry_points(python.parent)
                 made.done([python, "-m", "pip", "uninstall", "--yes", "nr"])
                 self.assertTrue(made.ran([python, "-c", "import nr"], self.folder)[0])
+
+
+class Page(made.InFolder):
+    """The lines of docs/install.md that unpack and install, in the folder of the packages."""
+
+    def test_lines(self) -> None:
+        lines = re.findall(r"(?ms)^```sh\n(tar xf .*?)^```$", (made.ROOT / "docs" / "install.md").read_text())[0]
+        self.assertEqual(set(re.findall(r"\d+\.\d+\.\d+", lines)), {re.sub("-.*", "", made.VERSION)})
+        # The page names a release, and the packages may be of a version that is not released yet.
+        for name in re.findall(r"[\w.*-]+\.(?:tar\.gz|deb|whl)", lines):
+            (found,) = made.DIST.glob(re.sub(r"\d+\.\d+\.\d+", "*", name))
+            lines = lines.replace(name, str(found)).replace(name.partition(".tar")[0], found.name.partition(".tar")[0])
+        unpack, _, install = lines.replace("./", "").splitlines()
+        self.assertTrue(made.done(["sh", "-ec", unpack], self.folder).startswith("linksim "))
+        environment = made.without_kit(PIP_TARGET=self.folder / "site")
+        made.done(["sh", "-ec", install.replace("pip ", f"{sys.executable} -m pip ", 1)], self.folder, environment)
+        self.assertTrue((self.folder / "site" / "nr" / "__init__.py").exists())

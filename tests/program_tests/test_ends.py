@@ -11,7 +11,7 @@ import threading
 from programs import Ended, FILES, Program, Row, done, folder, octets, ran, refused
 import programs
 from texts import EXAMPLES, PRACTICE, QUARTER_RATE, lines, six, ten
-from worked_texts import CUT_01, LONG_HELP, SYMBOLS
+from worked_texts import CUT_01, LONG_HELP, SYMBOLS, VERSION
 
 # Two rounds of one HARQ process: 24 bits of block 01 leave column 1, and 32 nothing, of 208 positions with 16 fillers.
 ROUNDS = ten("1,0,24,4,1,-,-,all,3,1", "1,0,32,1,1,-,-,all,3,1")
@@ -106,7 +106,7 @@ class Writes(Program):
         nothing = Row("", schedule=ten()).words("audit")
         no_block = ["cut", "--blocks", "-"]
         fault, write = b"linksim: refused: blocks Empty\n", b"linksim: refused: output Write\n"
-        text, version = octets(LONG_HELP["cut"]), b"linksim 0.3.0\n"
+        text, version = octets(LONG_HELP["cut"]), octets(f"linksim {VERSION}\n")
         said = b"error: invalid value '0' for '--rate <N>': 0 is not in 1..=2048\n\n"
         said += b"For more information, try '--help'.\n"
         misused = ["cut", "--rate", "0", "--blocks", "-"]

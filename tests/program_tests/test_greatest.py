@@ -7,8 +7,7 @@ from __future__ import annotations
 
 import dataclasses
 
-from model import chain, coding
-import pcg
+from model import chain, coding, pcg
 from programs import Program, Row
 from texts import PRACTICE, QUARTER_RATE, counted, eight, ending, lines, settings_of, seven, six, ten
 from worked_texts import ALL_OF_01, both_graphs

@@ -3,15 +3,32 @@ and code blocks that are sent one by one. Tables and schedules that erase and fl
 
 from __future__ import annotations
 
+import ast
 import dataclasses
+import pathlib
 import random
 import typing
+import unittest
 
+import model
 from model import chain
 from programs import Program, Row
 from shared import drawn_entries, table_text
 from texts import PRACTICE, QUARTER_RATE, counted, eight, ending, lines, settings_of
 from worked_texts import both_graphs
+
+
+class Independent(unittest.TestCase):
+    """What judges the project takes nothing from it."""
+
+    def test_imports(self) -> None:
+        roots = set()
+        for path in pathlib.Path(str(model.__file__)).parent.glob("*.py"):
+            for it in ast.walk(ast.parse(path.read_text())):
+                if isinstance(it, (ast.Import, ast.ImportFrom)):
+                    names = [str(it.module)] if isinstance(it, ast.ImportFrom) else [one.name for one in it.names]
+                    roots |= {name.partition(".")[0] for name in names}
+        self.assertEqual(roots, {"__future__", "csv", "dataclasses", "functools", "model", "typing"})
 
 
 @dataclasses.dataclass(frozen=True)

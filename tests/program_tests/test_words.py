@@ -6,7 +6,7 @@ import os
 
 from programs import Ended, Program, done, folder, octets, ran, refused
 from texts import FULL_RATE, PRACTICE, six
-from worked_texts import CUT_01, HELP, LONG_HELP, PROGRAM_HELP, SYMBOLS
+from worked_texts import CUT_01, HELP, LONG_HELP, PROGRAM_HELP, SYMBOLS, VERSION
 
 ZERO = "00" * 37
 # 37 octets take base graph 2 at most at 1372, and at a rate of one digit.
@@ -107,8 +107,7 @@ HELP_WORDS = [
     *((f"{command} --help", text) for command, text in LONG_HELP.items()),
     *((f"{command} -h", text) for command, text in HELP.items()),
     *((f"help {command}", text) for command, text in LONG_HELP.items()),
-    ("--version", "linksim 0.3.0\n"),
-    ("-V", "linksim 0.3.0\n"),
+    *((words, f"linksim {VERSION}\n") for words in ("--version", "-V")),
 ]
 
 

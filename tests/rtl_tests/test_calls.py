@@ -1,9 +1,7 @@
-"""Every status of every call through DPI by its cause, with all results as they were; what is answered; and the shim under
-valgrind."""
+"""Every status of every call through DPI by its cause, with all results as they were; and the shim under valgrind."""
 
 from __future__ import annotations
 
-import re
 import typing
 
 import built
@@ -45,27 +43,8 @@ class Calls(built.InFolder):
             at = next(place for place, it in enumerate(found) if place > 3 and it[1] != "Ok")
             with self.subTest(call=call, lines=some):
                 name, said, kept, _ = found[at]
-                self.assertEqual((name.replace("_down", "").replace("_many", ""), said, kept), (call, status, "kept"))
+                self.assertEqual((name, said, kept), (call, status, "kept"))
             found = found[:4] + found[at + 1 :]
-
-    def test_statuses_are_those_of_the_header(self) -> None:
-        """Every status that nr.h names for a call of the package has a cause here; those of a table have theirs below."""
-        header = (simulators.C / "nr.h").read_text()
-        statuses = re.findall(r"\bNR_([A-Z_]+) = \d+", header.partition("enum NrStatus {")[2].partition("};")[0])
-        names = {it: "".join(part.capitalize() for part in it.split("_")) for it in statuses}
-        of_table = {"Entries", "Empty", "Core", "Extension", "MissingRow"}
-        of_transmission = header.partition("/* of a transmission */")[2].partition("NR_LENGTH")[0]
-        # (the package's receiver is that of nr_golden.h)
-        for call in {it[0] for it in causes() if not it[0].startswith("receiver_")}:
-            told = re.search(rf"Faults:([^*]*)\*/\nNR_CHECKED uint32_t nr_{call}\(", header)
-            if told:
-                listed = told[1].replace("TRANSMISSION", of_transmission).replace("NR_", "")
-                wanted = {names[it] for it in re.findall(r"[A-Z_]{2,}", listed) if it in names} - of_table
-                has = {status for name, status, _ in causes() if name == call}
-                has |= {"Memory" for line in GROWING.splitlines() if line.split()[0] == call}
-                with self.subTest(call):
-                    # Nothing of the shim grows for a CRC, and nothing of the library that can be refused here.
-                    self.assertLessEqual(wanted - ({"Memory"} if call == "crc" else set()), has)
 
     def test_tables(self) -> None:
         """A file that is no table, by each of its faults."""
@@ -97,35 +76,6 @@ class Calls(built.InFolder):
         states = [status for _, status, _, _ in found]
         self.assertEqual(set(states[: states.index("Ok")]), {"Memory"})
 
-    def test_answers(self) -> None:
-        """What is answered, by another model of the clauses."""
-        numbers = coding.plan(72, 2048)
-        bits = coding.code_blocks(BLOCK, numbers)[0]
-        entries = coding.tables(PRACTICE)[2]
-        d = coding.coded(entries, numbers, bits)
-        digits = digits_of(bits)
-        sent = digits_of(coding.sent(PRACTICE, BLOCK, built.tx(300, rv=2, qm=2), 2048))
-        whole = digits + "2" * (numbers["k"] - numbers["kdash"])
-        word = "".join("2" if it is None else str(it) for it in d)
-        found = self.said(
-            f"table_open {built.PRACTICE}", f"octets {BLOCK.hex()}", "plan 2048 72", "crc 0 9", "crc 2 9",
-            "buffer 2048 0 72 2", "tx 2 300 2 1", "lengths 2048 72 1", f"cut 2048 9 0 {numbers['kdash']}", f"bits {digits}",
-            f"codeword 2048 72 {numbers['kdash']} {numbers['n']}", f"bits {whole}",
-            f"encode 2 {numbers['z']} {numbers['k']} {numbers['n']}", f"bits {word}",
-            f"match 2 {numbers['z']} {numbers['k'] - numbers['kdash']} {numbers['n']} 2 2 {numbers['n']} 300", "send 2048 0 9 300", f"heard {sent}",
-            "receive 2048 0 72 1 300 1 1 9", "heard " + "2" * 300, "receive 2048 0 72 1 300 1 1 9",
-        )
-        self.assertEqual({status for _, status, _, _ in found}, {"Ok"})
-        answers = [(name, rest) for name, _, _, rest in found[1:]]
-        plan = [str(numbers[name]) for name in ("graph", "b", "l", "c", "kdash", "kb", "z", "set", "k", "n")]
-        self.assertEqual(answers, [
-            ("plan", plan), ("crc", ["cde703"]), ("crc", ["31c3"]), ("buffer", ["750", "375"]), ("lengths", ["300"]),
-            ("cut", [digits]), ("codeword", [word]), ("encode", [word]), ("match", [sent]), ("send", [sent]),
-            ("receive", ["1", "0", BLOCK.hex()]),
-            # Nothing heard: the block stays as it was.
-            ("receive", ["0", "88", "a5" * 9]),
-        ])
-
     def test_several_code_blocks(self) -> None:
         """The golden transmission of three code blocks, one of which is not sent, and what its judge says of the second one."""
         table = shared.table_text({2: shared.drawn_entries(2)})
@@ -150,6 +100,13 @@ class Calls(built.InFolder):
             self.assertEqual(status, "Differs")
             said = f"sent of code block r = {r}: bit {wrong} is 0, right is 1 (beat {first // 32}, tdata[{wrong - first}])"
             self.assertEqual(" ".join(rest), said)
+
+    def test_places(self) -> None:
+        """Of 40 places in QPSK of the block 01 (K' = 24, 2 Zc = 8): d_0 to d_15, then d_32 on behind the filler bits, by columns."""
+        lines = [f"golden_place {m}" for m in range(40)]
+        found = self.said(f"table_open {built.PRACTICE}", "tx 0 40 2 1", "golden_new", "golden_send 2048 0 01", *lines)
+        live = [*range(16), *range(32, 56)]
+        self.assertEqual([it[3] for it in found[3:]], [["0", str(live[m // 2 + m % 2 * 20])] for m in range(40)])
 
     def test_the_first_bit_of_the_block_is_highest(self) -> None:
         """`a` and `attached` in octets are the block's, with its CRC."""
@@ -185,7 +142,7 @@ class Calls(built.InFolder):
         built.needs("verilator")
         lines = begins()
         for _, _, some in causes():
-            lines += [*some, "tx 0 24 1 1"] if "many" not in some[0] else []
+            lines += [*some, "tx 0 24 1 1"]
         lines += ["golden_free", "receiver_free", "table_close"]
         path = self.file("calls.txt", "".join(line + "\n" for line in lines))
         words = [tool, "--quiet", "--error-exitcode=9", "--leak-check=full", "--errors-for-leak-kinds=definite"]

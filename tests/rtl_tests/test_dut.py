@@ -27,7 +27,7 @@ class Dut(unittest.TestCase):
         shutil.copy(conform_shared.table(), cls.folder / "table.csv")
         cls.write("suite.jsonl", "conform", "suite", "--table", cls.folder / "table.csv")
         cls.write("cases.txt", "conform", "plain", cls.folder / "suite.jsonl", with_program=False)
-        cls.write("rom.mem", "table", "rom", cls.folder / "table.csv")
+        cls.write("rom.mem", "table", "rom", "--table", cls.folder / "table.csv")
 
     @classmethod
     def write(cls, name: str, tool: str, *words: object, with_program: bool = True) -> None:

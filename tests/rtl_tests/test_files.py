@@ -42,7 +42,7 @@ class Files(built.InFolder):
 
     def exported(self, suite: pathlib.Path, name: str, *words: object) -> dict[str, typing.Any]:
         """The manifest of what `export` writes."""
-        status, output, error = shared.tool("conform", "export", suite, self.folder / name, *words, with_program=False)
+        status, output, error = shared.tool("conform", "export", suite, "--out", self.folder / name, *words, with_program=False)
         self.assertEqual((status, output), (0, ""), error)
         made: dict[str, typing.Any] = json.loads((self.folder / name / "manifest.json").read_text())
         return made
@@ -89,7 +89,7 @@ class Files(built.InFolder):
     def test_rom(self) -> None:
         """The ROM of a table, read by both simulators, has each entry in its section, and all sections are equally long."""
         table = self.file("table.csv", simulators.tables())
-        output = shared.made("table", "rom", table)
+        output = shared.made("table", "rom", "--table", table)
         path = self.file("rom.mem", output)
         depth = int(re.findall(r"(\d+) words a section", output)[0])
         entries = sorted([int(field) for field in line.split(",")] for line in simulators.tables().split())
@@ -109,7 +109,7 @@ class Files(built.InFolder):
         table, suite = self.suite()
         manifest = self.exported(suite, "run")
         blocks = sum(part["E"] > 0 for case in manifest["cases"] for part in case["codeblocks"])
-        (self.folder / "run" / "rom.mem").write_text(shared.tool("table", "rom", table)[1])
+        (self.folder / "run" / "rom.mem").write_text(shared.tool("table", "rom", "--table", table)[1])
         for icarus in (False, True):
             name = f"files-{'icarus' if icarus else 'verilator'}"
             include = "-I" if icarus else f"-I{self.folder / 'run'}"

@@ -1,4 +1,4 @@
-"""The names and arguments of what nr_dpi_pkg.sv imports: against nr.h, nr_dpi.c, nr_vpi.c and nr_golden.h."""
+"""The names and arguments of what nr_dpi_pkg.sv imports: against nr_dpi.c, nr_vpi.c, nr_golden.h and nr.h."""
 
 from __future__ import annotations
 
@@ -18,17 +18,6 @@ IN_C = {
     "input int unsigned": "uint32_t", "inout int unsigned": "uint32_t *", "input string": "const char *", "input chandle": "void *",
     "inout chandle": "void **", "input bit": "svBit",
 }
-# What the package has in place of an argument of nr.h, and of the count after it.
-IN_PLACE = {
-    "const NrEntry *table": ["input chandle table_"],
-    "const NrSettings *settings": ["input int unsigned rate2048", "input int unsigned lbrm"],
-    "const NrMatch *numbers": [f"input int unsigned {name}" for name in ("graph", "z", "fillers", "ncb", "rv", "qm")],
-    "const NrTx *tx": ["input nr_tx_t tx"],
-    "NrPlan *out": ["inout nr_plan_t out"],
-    "NrBuffer *out": ["inout int unsigned ncb", "inout int unsigned k0"],
-}
-
-
 # An import is of its own name in the shim, or of a call of nr_golden.h that needs none.
 HEAD = r'import "DPI-C" (?:pure )?(?:nr_golden_\w+ = )?function [\w ]+? nr_dpi_(\w+)'
 
@@ -51,32 +40,11 @@ def calls(text: str, prefix: str) -> dict[str, list[str]]:
     return {name: [spaced(one) for one in given.split(",")] for name, given in re.findall(form, text)}
 
 
-def in_place(given: list[str]) -> list[str]:
-    """What the package imports in place of the arguments of a call of nr.h."""
-    found: list[str] = []
-    for place, one in enumerate(given):
-        counts = place + 1 < len(given) and given[place + 1].startswith("size_t ")
-        kind, _, name = one.rpartition("*") if "*" in one else one.rpartition(" ")
-        if one in IN_PLACE:
-            found += IN_PLACE[one]
-        elif one == "size_t table_len":
-            continue
-        elif kind.strip() in ("uint32_t", "size_t") and "*" not in one:
-            found.append(f"input int unsigned {name}")
-        else:
-            direction = "input" if kind.startswith("const ") else "inout"
-            item = {"uint8_t": "byte unsigned", "uint32_t": "int unsigned", "NrTx": "nr_tx_t"}[kind.replace("const ", "").strip()]
-            found.append(f"{direction} {item} {name}" + ("[]" if counts else ""))
-    return found
-
-
 def in_c(one: str) -> str:
     """How C takes an argument of an import."""
     direction, _, rest = one.partition(" ")
     kind, _, name = rest.rpartition(" ")
     name = name.rstrip("_")
-    if name.endswith("[]"):
-        return f"const svOpenArrayHandle {name[:-2]}"
     packed = kind.endswith("_t") or kind.startswith("bit [")
     taken = IN_C.get(f"{direction} {kind}") or ("const svBitVecVal *" if direction == "input" else "svBitVecVal *")
     assert packed or f"{direction} {kind}" in IN_C, one
@@ -85,16 +53,6 @@ def in_c(one: str) -> str:
 
 class Imports(unittest.TestCase):
     """Each import is what it is called after."""
-
-    def test_calls_of_the_header(self) -> None:
-        """The calls of nr.h that the package has. A call that nr.h gains later is none of them yet."""
-        said, found = calls(HEADER, "nr_"), imports()
-        names = {"plan", "lengths", "buffer", "crc", "cut", "encode", "match", "codeword", "send", "receive"}
-        self.assertLessEqual(names, found.keys() & said.keys())
-        # (the package's receiver is that of nr_golden.h)
-        for name in found.keys() & said.keys() - {"fault_name", "receiver_take"}:
-            with self.subTest(name):
-                self.assertEqual(found[name], in_place(said[name]))
 
     def test_calls_of_the_shim(self) -> None:
         said, golden, found = calls(SHIM, "nr_dpi_"), calls(GOLDEN, "nr_golden_"), imports()
@@ -117,8 +75,8 @@ class Imports(unittest.TestCase):
         self.assertEqual(found, listed)
 
     def test_names(self) -> None:
-        """Stages, polynomials and outcomes have the same order in C and in the package, and faults the same numbers."""
-        for c_text, name, prefix in ((GOLDEN, "NrStage", "NR_STAGE_"), (HEADER, "NrPoly", "NR_"), (HEADER, "NrOutcome", "NR_")):
+        """Stages and outcomes have the same order in C and in the package, and faults the same numbers."""
+        for c_text, name, prefix in ((GOLDEN, "NrStage", "NR_STAGE_"), (HEADER, "NrOutcome", "NR_OUTCOME_")):
             body = re.sub(r"/\*.*?\*/", "", re.search(rf"enum {name} \{{(.*?)\}}", c_text, re.S)[1], flags=re.S)  # type: ignore
             wanted = [it.replace(prefix, "NR_") for it in re.findall(r"NR_\w+", body) if it != "NR_STAGES"]
             with self.subTest(name):

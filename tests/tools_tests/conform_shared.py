@@ -123,9 +123,9 @@ def conform(*words: object, **options: typing.Any) -> tuple[int, str, str]:
     return shared.tool("conform", *words, with_program=False, **options)
 
 
-def refused(*words: object) -> str:
+def refused(*words: object, status: int = 1) -> str:
     """What the tool says, after its name, of words that it refuses."""
-    said = shared.refused("conform", *words, status=2, with_program=False)
+    said = shared.refused("conform", *words, status=status)
     return said[len("tools/conform: ") :].rstrip("\n")
 
 

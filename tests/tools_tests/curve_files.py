@@ -4,13 +4,11 @@ from __future__ import annotations
 
 import contextlib
 import importlib
-import os
 import pathlib
 import typing
 import unittest
 
 import shared
-from linksim_tools.curve.packages import DEBIAN_PYTHON
 
 numpy: typing.Any = None
 with contextlib.suppress(ImportError):
@@ -31,16 +29,7 @@ def text_of(table: str | pathlib.Path, *keys: dict[str, object]) -> str:
     return "".join(f"{key} = {value}\n" for key, value in whole.items())
 
 
-def with_numpy(loader: unittest.TestLoader, module: str, cases: list[type[unittest.TestCase]]) -> unittest.TestSuite:
-    """The tests of a module. If this Python has no numpy, one test runs them by Debian's."""
-    def by_debians_python() -> None:
-        if not os.access(DEBIAN_PYTHON, os.X_OK) or shared.run([DEBIAN_PYTHON, "-c", "import numpy"])[0]:
-            raise unittest.SkipTest("numpy is not there")
-        words = [DEBIAN_PYTHON, shared.ROOT / "tests" / "tools", "--program", shared.program(), module]
-        status, output, error = shared.run(words)
-        if status:
-            raise AssertionError(output.decode() + error.decode())
-
+def needs_numpy() -> None:
+    """Skips the tests of a module that counts and fits by numpy."""
     if numpy is None:
-        return unittest.TestSuite([unittest.FunctionTestCase(by_debians_python, description=f"{module}, by Debian's Python")])
-    return unittest.TestSuite(loader.loadTestsFromTestCase(case) for case in cases)
+        raise unittest.SkipTest("numpy is not there")

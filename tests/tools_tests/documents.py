@@ -59,10 +59,11 @@ def answers(folder: pathlib.Path, lines: list[str]) -> list[str]:
 def settled(text: str) -> str:
     """What a command writes, with a date and versions that stay the same."""
     dated = re.sub(r"on \d{4}-\d\d-\d\d \d\d:\d\d:\d\d UTC", "on 2026-11-28 12:00:00 UTC", text)
-    return re.sub(r"linksim \d+\.\d+\.\d+", "linksim 0.3.0", dated)
+    return re.sub(r"linksim \d+\.\d+\.\d+(-dev)?", "linksim 0.3.0", dated)
 
 
 def words_missing(line: str) -> list[typing.Any]:
     """The programs that a command needs, of those that a machine may lack."""
-    needed = {name: name for name in ("xxd", "parallel", "awk", "man", "cc")} | {"./planted": "cc"}
+    needed = {name: name for name in ("xxd", "parallel", "awk", "man", "cc")}
+    needed.update(dict.fromkeys(("./planted", "./receiver", "./verify"), "cc"))
     return [program for name, program in needed.items() if name in line.split() and not shutil.which(program)]

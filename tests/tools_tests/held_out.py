@@ -165,13 +165,6 @@ def half_cleared(self: Receiver, sizes: steps.Sizes, told: typing.Any, process: 
     process.before = process.soft
 
 
-def once(self: Receiver, process: typing.Any, bits: str | None) -> str | None:
-    """A block is handed up at its first time alone."""
-    had = getattr(process, "had", None)
-    process.had = process.first if bits else had
-    return None if had is process.first else bits
-
-
 def stronger(self: Receiver, had: Soft, came: Soft, places: steps.Places) -> Soft:
     return Soft([one if abs(one) >= abs(other) else other for one, other in zip(had, came)])
 
@@ -232,7 +225,6 @@ HELD_OUT: dict[str, HeldOut] = {
     "half-cleared": HeldOut("combine", half_cleared, "by late columns"),
     "cleared-by-a": HeldOut("clears", lambda self, told, process: process.first is None or process.first.a != told.a,
                             "a fresh block is added to the one before"),
-    "handed-up-once": HeldOut("answered", once, "a block is handed up once, and nothing if it is sent again"),
     "process-of-four": HeldOut("process_of", lambda self, told: told.process % 4, "processes 3 and 11 in turn"),
     "process-of-seven": HeldOut("process_of", lambda self, told: min(told.process, 7), "processes 9 and 15 in turn"),
     "crc-low-octet": HeldOut("fits_block", crc_low_octet, "the first octet of the block's CRC is wrong"),

@@ -194,7 +194,7 @@ UNIT = "unit = it->nl * it->qm, all"
 LONGER = "is_longer(j, count, longer)"
 
 LENGTHS = (
-    planted("layers-3", r"exactly where NL = 3[^\x00]*lengths-no-layers", UNIT,
+    planted("layers-3", "NL = 3 is taken as 1", UNIT,
             UNIT.replace("it->nl", "(it->nl == 3 ? 1 : it->nl)")),
     told("mask-backwards", ("E has the right numbers, at other code blocks", NOTHING),
             "int scheduled = all || it->mask[r] == '1';", "int scheduled = all || it->mask[plan->c - 1 - r] == '1';"),
@@ -226,7 +226,7 @@ INTERLEAVING = (
     planted("transposed-qpsk", "exactly where Qm = 2", PLACE,
             "if (qm == 2)\n                f[i * (count / qm) + j] = e[i + j * qm];\n            else\n"
             "                " + PLACE),
-    planted("i-and-q-exchanged", "exactly where Qm > 1", PLACE,
+    planted("i-and-q-exchanged", "with each pair exchanged", PLACE,
             "f[(qm > 1 ? i ^ 1 : i) + j * qm] = e[i * (count / qm) + j];"),
     planted("256qam-as-16qam", "exactly where Qm = 8", PLACE,
             PLACE.replace("i + j * qm", "(qm == 8 ? i / 2 + i % 2 * 4 : i) + j * qm")),

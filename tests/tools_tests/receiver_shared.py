@@ -14,11 +14,12 @@ import typing
 import conform_shared
 import shared
 from linksim_tools.conform.receiver import answers as answering
-from linksim_tools.conform.receiver import judged, report, run
+from linksim_tools.conform.receiver import judged, report, run, verdicts
 from linksim_tools.conform.receiver import suite as suites
 from linksim_tools.conform.receiver.diagnosis import Diagnosis
 from linksim_tools.conform.receiver.level import MODEL, Level
 from linksim_tools.conform.receiver.mistakes import receiver_with
+from linksim_tools.conform.receiver.seen import Seen
 
 if typing.TYPE_CHECKING:
     from linksim_tools.conform.receiver.chain import Receiver
@@ -133,13 +134,19 @@ def of_model(mistake: str, levels: int = 1) -> Diagnosis:
     for name, kept in suite().cases.items():
         told = kept.answers(mistake)[0]
         found.words[name] = [(*words[:levels], *(None,) * (len(words) - levels)) for words in told]
+        found.also[name] = found.accepted(name, [None] * len(told))
     found.judged = [name for name, kept in suite().cases.items() if kept.known and not found.is_doubt(name)]
     return found
 
 
+def verdict_of(found: Diagnosis) -> verdicts.Verdict:
+    """The verdict on a diagnosis of blocks that are not delivered in another order."""
+    return verdicts.verdict(Seen(found, {}))
+
+
 def named(answers: answering.Answers) -> list[tuple[str, ...]]:
     """The mistakes that a diagnosis names."""
-    return Diagnosis(suite(), answers).finding().names
+    return verdicts.verdict(Seen(Diagnosis(suite(), answers), answers)).names
 
 
 def reported(answers: answering.Answers) -> report.Report:

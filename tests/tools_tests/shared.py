@@ -2,6 +2,8 @@
 
 from __future__ import annotations
 
+import os
+import importlib.util
 import pathlib
 import random
 import shutil
@@ -27,17 +29,21 @@ SECONDS = 600
 # A table's entries: by row and column the eight values of the sets 0 to 7.
 Entries = typing.Dict[typing.Tuple[int, int], typing.List[int]]
 
-_program = PROGRAM
+_program: pathlib.Path | None = PROGRAM
 
 
 def use(path: pathlib.Path) -> None:
-    """Names the program that the tests run, or ends if there is none."""
+    """Names the program that the tests run. Without the built one, the tests that run it are skipped; if another one is named, it
+    has to be there."""
     global _program
-    _program = outcome.program_of("tools", path)
+    is_built = path != PROGRAM or os.access(path, os.X_OK)
+    _program = outcome.program_of("tools", path) if is_built else None
 
 
 def program() -> pathlib.Path:
-    """The path of the built program."""
+    """The path of the built program; a test that wants it is skipped where it isn't built."""
+    if not _program:
+        raise unittest.SkipTest("the program is not built: tools/first-build builds it")
     return _program
 
 
@@ -69,8 +75,8 @@ def needs_tomllib() -> None:
 
 
 def needs_matplotlib() -> None:
-    """Skips a test in which Debian's Python draws."""
-    if run(["/usr/bin/python3", "-c", "import matplotlib, numpy"])[0]:
+    """Skips a test that draws, if this Python cannot."""
+    if not all(importlib.util.find_spec(name) for name in ("matplotlib", "numpy")):
         raise unittest.SkipTest("matplotlib and numpy are not there")
 
 
@@ -85,8 +91,9 @@ def linksim(*words: object, stdin: bytes = b"", folder: pathlib.Path | None = No
 def tool(
     name: str, *words: object, stdin: bytes = b"", folder: pathlib.Path | None = None, with_program: bool = True
 ) -> tuple[int, str, str]:
-    """A tool's status, standard output and standard error in text, over the program of these tests."""
-    option = ["--program", program()] if with_program else []
+    """A tool's status, standard output and standard error in text, over the program of these tests if it runs one."""
+    runs_it = name in ("curve", "explain") or words[:2] == ("receiver", "suite")
+    option = ["--program", program()] if with_program and runs_it else []
     status, output, error = run([sys.executable, TOOLS / name, *words, *option], stdin, folder)
     return status, output.decode(), error.decode()
 

@@ -41,7 +41,10 @@ def built(one: planted.Planted) -> pathlib.Path:
         assert text.count(old) == 1, (one.name, old)
         text = text.replace(old, new)
     (folder / "encoder.h").write_text(text)
-    status, _, error = shared.run(["cc", "-std=c99", "-O1", "-w", "-o", folder / "encoder", folder / "encoder.c"])
+    # A planted mistake may write past what the right encoder takes.
+    (folder / "roomy.h").write_text("#include <stdlib.h>\n#define malloc(size) malloc(2 * (size) + 65536)\n")
+    roomy = ["-include", folder / "roomy.h"]
+    status, _, error = shared.run(["cc", "-std=c99", "-O1", "-w", *roomy, "-o", folder / "encoder", folder / "encoder.c"])
     assert status == 0, error.decode()
     return folder / "encoder"
 
@@ -114,7 +117,7 @@ class Planted(unittest.TestCase):
     def test_not_deterministic(self) -> None:
         text = ("import sys, random\nfor line in sys.stdin:\n    words = line.split()\n"
                 "    print('id', words[1], 'k0', random.randrange(9, 99_999), flush=True)\n")
-        path = conform_shared.folder() / "random.py"
+        path = conform_shared.folder() / "drawn_answers.py"
         path.write_text(text)
         words = ["run", "--plain", "--twice", conform_shared.few_path(), "--", sys.executable, path]
         status, output, error = conform_shared.conform(*words)

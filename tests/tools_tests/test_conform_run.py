@@ -241,11 +241,11 @@ for line in sys.stdin:
     def test_no_command(self) -> None:
         status, lines, error = self.run_("/nowhere/encoder")
         said = "tools/conform: /nowhere/encoder cannot be started: No such file or directory"
-        self.assertEqual((status, lines, error), (2, [], [said]))
-        self.assertEqual(conform_shared.refused("run", conform_shared.few_path()), "no command: write it after --")
+        self.assertEqual((status, lines, error), (1, [], [said]))
+        self.assertEqual(conform_shared.refused("run", conform_shared.few_path(), status=2), "no command: write it after --")
         status, lines, error = self.run_("true", suite="/nowhere")
         said = "tools/conform: /nowhere cannot be read: No such file or directory"
-        self.assertEqual((status, lines, error), (2, [], [said]))
+        self.assertEqual((status, lines, error), (1, [], [said]))
         for word in ("0", "nan", "ten"):
             status, _, error = self.run_("true", more=["--seconds", word])
             said = f"tools/conform run: error: argument --seconds: {word} is not from 0.001 to 1e+06"

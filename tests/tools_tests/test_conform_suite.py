@@ -17,7 +17,7 @@ from linksim_tools.conform.encoder import design, points
 from linksim_tools.conform.encoder import suite as suites
 
 # The most cases of a profile.
-MOST = {"quick": 180, "full": 1100}
+MOST = {"quick": 190, "full": 1100}
 
 
 class Points(unittest.TestCase):
@@ -83,8 +83,8 @@ class Suite(shared.InFolder):
             words = [f"--{key}={value}" for key, value in case["transmission"].items()]
             blocks = self.file("blocks", case["a"]["hex"] + "\n")
             files = ["--table", conform_shared.table(), "--settings", settings, "--blocks", blocks]
-            made = json.loads(shared.made("vectors", *files, *words))
-            vector = {key: it for key, it in made.items() if key != "made"}
+            made = json.loads(shared.made("vectors", "one", *files, *words))
+            vector = {key: it for key, it in made.items() if key not in ("made", "digest")}
             self.assertEqual(vector, {key: it for key, it in case.items() if key not in ("id", "covers")})
             status, output, _ = conform_shared.conform("show", conform_shared.suite_path(), name)
             self.assertEqual((status, json.loads(output)), (0, case))
@@ -120,20 +120,20 @@ class Suite(shared.InFolder):
         one = read.cases["limit-8-511"].a
         self.assertNotEqual(int(one, 2), int(other["limit-8-511"]["a"]["hex"], 16))
 
-    def test_the_model_is_the_program_on_every_case(self) -> None:
-        """All cases of `full`; a suite is written only if the model has the program's bits."""
-        path, tables = conform_shared.table(), files.table_of(shared.program(), conform_shared.table())
+    def test_the_model_is_the_library_on_every_case(self) -> None:
+        """All cases of `full`; a suite is written only if the model has the library's bits."""
+        path, tables = conform_shared.table(), files.entries_of(conform_shared.table())
         cases = suites.cases_of(tables, "full", 3)
         self.assertEqual(len(cases), len(design.designed("full", 3)))
-        count = len(list(suites.judged(shared.program(), path, tables, cases)))
+        count = len(list(suites.judged(path, tables, cases)))
         self.assertEqual(count, len(cases))
 
     def test_another_model_is_no_suite(self) -> None:
-        tables = files.table_of(shared.program(), conform_shared.table())
+        tables = files.entries_of(conform_shared.table())
         tables[2][20] = [(column, tuple(value + 1 for value in values)) for column, values in tables[2][20]]
         case = conform_shared.suite().cases["kb-560"]
         with self.assertRaisesRegex(program.Failed, "case kb-560: d is not as the model has it"):
-            list(suites.judged(shared.program(), conform_shared.table(), tables, [case]))
+            list(suites.judged(conform_shared.table(), tables, [case]))
 
 
 class Own(shared.InFolder):
@@ -170,32 +170,31 @@ class Own(shared.InFolder):
             "mask is not `all`, and no digits 0 and 1 with a 1: 000": good + " mask 000",
             "no code block is scheduled": good + " mask 01",
             "rv stands there twice": good + " rv 1 rv 1",
-            "a block of 16856 bits cannot be cut; tools/vectors --near names sizes that can": good + "00" * 2106,
+            "a block of 16856 bits cannot be cut; tools/vectors near names sizes that can": good + "00" * 2106,
         }.items():
             with self.subTest(said):
                 status, _, error = self.own("# mine", line)
-                self.assertEqual(status, 2)
+                self.assertEqual(status, 1)
                 self.assertRegex(error, r"^tools/conform: \S+ line 2: " + re.escape(said) + r"\n$")
         status, _, error = self.own(good, good)
         self.assertRegex(error, r"line 2: a case before it is one too\n$")
         status, _, error = self.own("id one rate2048 1024 g 601 qm 4 a 01")
-        self.assertEqual(status, 2)
-        said = "the program refuses its transmission: Ragged (docs/formats.md, What send writes)"
-        self.assertEqual(error, f"tools/conform: case one: {said}\n")
+        self.assertEqual(status, 1)
+        self.assertRegex(error, "^tools/conform: case one: the library rejects it: Ragged: .*\n$")
 
 
 class Refused(shared.InFolder):
-    """What is no suite, and no table."""
+    """What is not a suite, and not a table."""
 
     def refused(self, said: str, text: str) -> None:
         self.assertIn(said, conform_shared.refused("check", self.file("suite.jsonl", text), self.file("answers.jsonl", "")))
 
     def test_suites(self) -> None:
         head, case = conform_shared.suite_path().read_text().splitlines()[:2]
-        self.refused("is no suite for encoders: its first line", "")
+        self.refused("is not a suite for encoders: its first line", "")
         self.refused("line 1: not JSON", "suite\n")
-        self.refused("is no suite for encoders: its first line", case + "\n")
-        self.refused("is no suite for encoders: its first line", json.dumps(json.loads(head) | {"made": 7}) + "\n")
+        self.refused("is not a suite for encoders: its first line", case + "\n")
+        self.refused("is not a suite for encoders: its first line", json.dumps(json.loads(head) | {"made": 7}) + "\n")
         self.refused("line 2: no JSON object", head + "\n[]\n")
         self.refused("line 2: no case of a suite: 'transmission'", head + '\n{"id": "x"}\n')
         endless = json.dumps(json.loads(case) | {"rate2048": float("inf")})
@@ -208,10 +207,8 @@ class Refused(shared.InFolder):
 
     def test_tables_and_cases(self) -> None:
         suite, refused = conform_shared.suite_path(), conform_shared.refused
-        table = ["suite", "--table", "/nowhere", "--program"]
-        self.assertEqual(refused(*table, shared.program()), "/nowhere: linksim: refused: table Read")
-        self.assertRegex(refused(*table, "/nowhere"), "^no program at /nowhere")
+        self.assertEqual(refused("suite", "--table", "/nowhere"), "/nowhere cannot be read: No such file or directory")
         self.assertEqual(refused("show", suite, "none"), f"{suite} has no case none")
         path = self.file("receivers.jsonl", '{"receiver": 1}\n{"id": "none"}\n')
-        self.assertRegex(refused("show", path, "none"), " writes; it is a suite for receivers$")
+        self.assertRegex(refused("show", path, "none"), "suite\\); it is a suite for receivers$")
         self.assertEqual(refused("mistakes", "/nowhere"), "/nowhere cannot be read: No such file or directory")

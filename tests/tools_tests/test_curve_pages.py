@@ -70,7 +70,7 @@ class Made(Conf):
     def report(self) -> None:
         """The page has the picture, the rates and the provenance, and asks for nothing from elsewhere."""
         out = self.folder / "c.html"
-        self.curve("report", self.conf, "--html", out)
+        self.curve("report", self.conf, "--out", out)
         text = out.read_text()
         page = Page(text)
         self.assertLessEqual({"picture", "rates", "commands", "provenance"}, page.ids)
@@ -83,7 +83,7 @@ class Made(Conf):
         for said in (source, "linksim ", "SHA-256", "seed = 7", "tools/curve run", "free of assumptions", "hours of a processor"):
             self.assertIn(said, text)
         again = self.folder / "again.html"
-        self.curve("report", self.conf, "--html", again)
+        self.curve("report", self.conf, "--out", again)
         self.assertEqual(again.read_text().replace("again.html", "c.html"), text)
         if not browser.path():
             self.skipTest("chromium is not there")
@@ -104,9 +104,10 @@ class Made(Conf):
         """A drawn share is made anew; a line that was changed by hand is found if it is drawn."""
         self.assertIn("chunks are what they were", self.curve("audit", self.conf, "--share", "20%", "--seed", "1"))
         lines = self.results.read_text().splitlines(keepends=True)
-        fields = lines[1].split(",")
+        at = next(at for at, line in enumerate(lines) if line[0] in "01")
+        fields = lines[at].split(",")
         fields[4] = str(int(fields[4]) + 1)
-        self.results.write_text("".join([lines[0], ",".join(fields), *lines[2:]]))
+        self.results.write_text("".join([*lines[:at], ",".join(fields), *lines[at + 1 :]]))
         status, output, _ = shared.tool("curve", "audit", self.conf, "--share", "100%")
         self.assertEqual(status, 1)
         self.assertIn(f"chunk {fields[1]} of the point {fields[0]} differs", output)
@@ -117,15 +118,15 @@ class Made(Conf):
         """The picture is the same each time. Several curves are in one, and the figures of HARQ in another."""
         self.curve("run", self.conf, "--jobs", 2)
         for name in ("1.svg", "2.svg"):
-            self.curve("plot", self.conf, self.folder / name)
+            self.curve("plot", self.conf, "--out", self.folder / name)
         self.assertEqual((self.folder / "1.svg").read_bytes(), (self.folder / "2.svg").read_bytes())
         self.assertGreater(os.path.getsize(self.folder / "1.svg"), 10_000)
-        refused = shared.refused("curve", "plot", self.conf, self.folder / "1.foo", status=2)
+        refused = shared.refused("curve", "plot", self.conf, "--out", self.folder / "1.foo", status=2)
         self.assertRegex(refused, r"1\.foo: the ending of a picture is one of .*, pdf, .*png, .*svg,")
         other = self.file("d.toml", CONF)
         shutil.copy(self.results, self.folder / "d.csv")
-        self.curve("plot", self.conf, self.folder / "3.svg", self.results, other, self.folder / "d.csv")
-        said = self.curve("harq", self.conf, "--at", "0.2", "0.3", "--plot", self.folder / "4.svg").splitlines()
+        self.curve("plot", self.conf, self.results, other, self.folder / "d.csv", "--out", self.folder / "3.svg")
+        said = self.curve("harq", self.conf, "--at", "0.2,0.3", "--plot", self.folder / "4.svg").splitlines()
         self.assertEqual(said[0], "p,figure,transmissions,estimate,low,high")
         figures = {",".join(line.split(",")[:3]) for line in said[1:]}
         self.assertLessEqual({"0.2,block_error_rate,2", "0.3,mean_transmissions,2", "-,p_for_0.1,1"}, figures)

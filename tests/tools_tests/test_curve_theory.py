@@ -2,7 +2,6 @@
 
 from __future__ import annotations
 
-import dataclasses
 import math
 
 import shared
@@ -31,18 +30,14 @@ class Theory(Conf):
         )
 
     def test_places_are_those_of_the_clauses(self) -> None:
-        code = theory.code_of(self.setting, shared.program())
+        code = theory.code_of(self.setting)
         # A 40, B 56: base graph 2, Kb 6, Zc 10, K' 56, K 100, N 500; k0 of rv 2 is 25 Zc.
         plan = [code.plan[name] for name in ("graph", "c", "l", "b", "kdash", "z", "k", "n")]
         self.assertEqual(plan, [2, 1, 0, 56, 56, 10, 100, 500])
-        self.assertEqual(theory.lengths_of(self.setting, code), [120])
         times = theory.times_sent(self.setting, code, 120, 2)
         # The fillers are positions 56 to 99, so places 36 to 79: rv 0 sends places 0 to 35 and 80 to 163.
         wanted = [*range(36), *range(80, 164), *range(250, 370)]
         self.assertEqual([place for place, count in enumerate(times) if count], wanted)
-        several = dataclasses.replace(code, plan={**code.plan, "c": 3})
-        setting = dataclasses.replace(self.setting, g=40, qm=4, nl=2)
-        self.assertEqual(theory.lengths_of(setting, several), [8, 16, 16])
         self.assertEqual(theory.free_bits(code), 40)
         self.assertAlmostEqual(theory.erasure_limit(self.setting, 1), 2 / 3)
 
@@ -68,14 +63,14 @@ class Picture(Conf):
         shared.needs_matplotlib()
         self.file("c.csv", "0.2,0,40,1,40,3,40,3,900,9\n0.1,0,40,1,21,0,21,0,200,0\n0.05,0,40,1,0,0,0,0,0,0\n")
         # From a folder that the program isn't below: else its path is written as it is seen from there.
-        said = self.curve("plot", self.conf, self.folder / "c.svg", folder=self.folder)
+        said = self.curve("plot", self.conf, "--out", self.folder / "c.svg", folder=self.folder)
         drawn = (self.folder / "c.svg").read_text()
         self.assertRegex(drawn, r'<svg .*role="img".*>\n<title>A = 40 bits.*</title>\n<desc>Block error rates .*</desc>\n')
         # Its words are text, its lines are few, and who wants it dark gets other colours.
         for words in (">erasure probability<", ">after 2 transmissions<", "prefers-color-scheme:dark"):
             self.assertIn(words, drawn)
         # The grey line has the fingerprint of the table as tools/table has it.
-        lines = shared.tool("table", "fingerprint", shared.EXAMPLES / "practice.csv")[1].splitlines()
+        lines = shared.tool("table", "fingerprint", "--table", shared.EXAMPLES / "practice.csv")[1].splitlines()
         digest = next(line.split()[4] for line in lines if line.startswith("graph 2 set 2 "))
         traced = f"practice.csv (graph 2 set 2 {digest}), rate 512/2048, Qm 2, NL 1, G 120, 120 rounds, source unknown"
         self.assertIn(f">{traced}<", drawn)
@@ -86,7 +81,7 @@ class Picture(Conf):
         self.assertRegex(said, table + r"2,0\.8333,0\.\d{4},-\n")
         self.assertIn(f"tools/curve sets {self.conf} 0.1 0 --after 1\n", said)
         self.assertIn(f"{shared.program()} audit --table {shared.EXAMPLES / 'practice.csv'}", said)
-        self.curve("plot", self.conf, self.folder / "c.svg")
+        self.curve("plot", self.conf, "--out", self.folder / "c.svg")
         self.assertEqual(first, (self.folder / "c.svg").read_bytes())
 
     def test_results_of_another_curve(self) -> None:
@@ -96,10 +91,10 @@ class Picture(Conf):
         out = self.folder / "c.svg"
         for source, said in ((f"{program}-{table}-0000", "one of the keys a, "), (f"0000-0000-{keys}", "the table differs")):
             self.file("c.csv", f"{line},,,{source}\n")
-            refused = self.refused("plot", self.conf, out)
-            self.assertIn(f"tools/curve: the results are of another curve than {self.conf}: {said}", refused)
+            refused = self.refused("plot", self.conf, "--out", out)
+            self.assertIn(f"tools/curve: {self.folder / 'c.csv'}: not the curve of {self.conf}: {said}", refused)
         self.file("c.csv", f"{line.replace(',40,1,', ',40,2,', 1)}\n")
-        self.assertIn("the results are of 2 code blocks, and ", self.refused("plot", self.conf, out))
+        self.assertIn("the results are of 2 code blocks, and ", self.refused("plot", self.conf, "--out", out))
         self.file("c.csv", f"{line},,,0000-{table}-{keys}\n")
         self.assertFalse(out.exists())
-        self.curve("plot", self.conf, out)
+        self.curve("plot", self.conf, "--out", out)

@@ -43,7 +43,7 @@ TABLES = [
     (without("2,7,", "2,9,"), "MissingRow 2", ["no entry in rows 7, 9"]),
 ]
 SETTINGS_TEXTS = [
-    ("rate2048 = \n", "Toml", ["no TOML"]),
+    ("rate2048 = \n", "Toml", ["not TOML"]),
     ("rate = 5\n", "Unknown", ["rate = 5"]),
     ("lbrm = 5\n", "Missing", ["lbrm = 5"]),
     ("rate2048 = 0.5\n", "Kind", ["rate2048 = 0.5 (rate2048 = 1024 is the same)"]),
@@ -83,7 +83,7 @@ class Names(shared.InFolder):
                 self.assertIn(f"  {fault.cause}\n  {fault.remedy}\n", output)
 
     def test_no_name(self) -> None:
-        said = "tools/explain: there is no refusal Mend\n"
+        said = "tools/explain: there is no error Mend\n"
         self.assertEqual(shared.tool("explain", "Core", "Mend", with_program=False), (2, "", said))
         self.assertEqual(shared.tool("explain", "mend", "--table", "t")[0], 2)
         self.assertEqual(shared.tool("explain", "run", "check", "--table", "t")[0], 2)
@@ -92,7 +92,7 @@ class Names(shared.InFolder):
         """It says nothing itself, as on a processor that lacks an instruction."""
         killed = self.file("killed", "#!/bin/sh\nkill -ILL $$\n")
         killed.chmod(0o755)
-        for words in (["explain", "check", "--table", TABLE], ["vectors", "--near", 8]):
+        for words in (["explain", "check", "--table", TABLE], ["conform", "receiver", "suite", "--table", TABLE]):
             said = shared.refused(str(words[0]), *words[1:], "--program", killed, with_program=False)
             self.assertIn(f"{killed} ended with status -4", said)
 
@@ -100,11 +100,11 @@ class Names(shared.InFolder):
         """Each tool says so, whatever that program would answer."""
         other = self.file("other", "#!/bin/sh\necho another 1.0\n")
         other.chmod(0o755)
-        tools = [["explain", "check", "--table", TABLE], ["vectors", "--near", 8], ["conform", "suite", "--table", TABLE],
-                 ["curve", "limits", shared.EXAMPLES / "curve.toml"], ["table", "fingerprint", TABLE]]
+        tools = [["explain", "check", "--table", TABLE], ["conform", "receiver", "suite", "--table", TABLE],
+                 ["curve", "sets", shared.EXAMPLES / "curve.toml", "0.3", "0"]]
         for tool, *words in tools:
-            said = shared.refused(str(tool), *words, "--program", other, with_program=False, status=2)
-            self.assertEqual(said, f"tools/{tool}: {other} is no program linksim: it answers 'another 1.0' to --version\n")
+            said = shared.refused(str(tool), *words, "--program", other, with_program=False)
+            self.assertEqual(said, f"tools/{tool}: {other} is not linksim: it answers 'another 1.0' to --version\n")
 
     def test_about(self) -> None:
         """Which program it is."""
@@ -183,7 +183,7 @@ class Files(shared.InFolder):
         self.assertIn("  rate2048 2048: base graph 1\n", output)
         self.assertIn("graph 2 entries 105\n", output)
         self.assertIn(
-            "NoBuffer: lbrm keeps no bit", self.explained("send", settings=self.file("l", SETTINGS + "lbrm = 0\n"))
+            "NoBuffer: lbrm leaves no bit", self.explained("send", settings=self.file("l", SETTINGS + "lbrm = 0\n"))
         )
 
     def test_transmissions(self) -> None:
@@ -194,7 +194,7 @@ class Files(shared.InFolder):
 
     def test_a_later_release(self) -> None:
         output = self.explained("send", schedule=self.file("q", f"{HEADER}\n1,0,40,10,1,-\n"))
-        said = "\n  1024QAM is of Release 17; this is Release 15, which has 1, 2, 4, 6 and 8\n  Order: qm is none"
+        said = "\n  1024QAM is of Release 17; this is Release 15, which has 1, 2, 4, 6 and 8\n  Order: qm is not 1"
         self.assertIn(said, output)
 
     def test_a_text_in_utf_16(self) -> None:
@@ -223,10 +223,10 @@ class Outcome(seen_pages.SeenPages):
         schedule = self.file("s.csv", "block,rv,g,qm,nl,erase\n1,0,24,1,1,20-23\n")
         lines = self.outcome(schedule).splitlines()
         self.assertRegex(lines[0], r"^block 1 open tx 1 failed 1 of 1$")
-        self.assertRegex(lines[1], r"^  code block 0: (\d+) of its K' = 24 positions are not fixed\. Of all (\d+) ")
+        self.assertRegex(lines[1], r"^  code block 0: (\d+) of its K' = 24 bits are unknown\. The (\d+) ")
         audited = shared.linksim("audit", *shared.options({**shared.INPUTS, "schedule": schedule}))
         words = audited.splitlines()[0].split()
-        self.assertEqual(re.findall(r"Of all (\d+) ", lines[1]), [words[3]])
+        self.assertEqual(re.findall(r"The (\d+) unknown", lines[1]), [words[3]])
         self.assertIn(f"code block 0: {sum(int(it) < 24 for it in words[4:])} of its K'", lines[1])
         self.assertTrue(lines[-1].startswith("total blocks "))
 
@@ -263,7 +263,7 @@ class Outcome(seen_pages.SeenPages):
         page = self.folder / "page.html"
         output = self.outcome(schedule, "--html", page, table=table, settings=settings, blocks=block)
         self.assertIn("process 0 block 1 open tx 2 failed ", output)
-        self.assertIn("2 transmissions are refused: tools/explain run says why", output)
+        self.assertIn("2 transmissions are rejected: tools/explain run shows why", output)
         self.assertGreater(page.read_text().count("<svg"), 2)
         self.assertIn("in 4 to 7", page.read_text())
         self.assertEqual(self.seen(page.read_text().splitlines())[1], page.read_text().count("<svg"))

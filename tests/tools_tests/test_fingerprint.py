@@ -37,11 +37,11 @@ class Fingerprint(shared.InFolder):
     def digests(self, tables: dict[int, shared.Entries]) -> dict[tuple[str, ...], str]:
         """The lines of the fingerprint of these tables, by base graph and set index."""
         path = self.file("table.csv", shared.table_text(tables))
-        return {tuple(line.split()[:4]): line.split()[4] for line in fingerprint.fingerprint(shared.program(), path)}
+        return {tuple(line.split()[:4]): line.split()[4] for line in fingerprint.fingerprint(path)}
 
     def test_by_another_encoder(self) -> None:
         tables = {graph: shared.drawn_entries(graph, seed=3) for graph in (1, 2)}
-        output = shared.made("table", "fingerprint", self.file("table.csv", shared.table_text(tables)))
+        output = shared.made("table", "fingerprint", "--table", self.file("table.csv", shared.table_text(tables)))
         wanted = [
             f"graph {graph} set {index} {digest}\n"
             for graph, entries in tables.items()
@@ -53,7 +53,7 @@ class Fingerprint(shared.InFolder):
         tables = {2: shared.drawn_entries(2)}
         lines = shared.table_text(tables).splitlines(keepends=True)
         random.Random(1).shuffle(lines)
-        found = list(fingerprint.fingerprint(shared.program(), self.file("shuffled.csv", "".join(lines))))
+        found = list(fingerprint.fingerprint(self.file("shuffled.csv", "".join(lines))))
         self.assertEqual(found, [" ".join([*key, digest]) for key, digest in self.digests(tables).items()])
 
     def damaged(self, damage: Damage, count: int = 4) -> None:
@@ -127,9 +127,10 @@ class Fingerprint(shared.InFolder):
         self.damaged(damage)
 
     def test_one_graph(self) -> None:
-        output = shared.made("table", "fingerprint", shared.EXAMPLES / "practice.csv")
+        output = shared.made("table", "fingerprint", "--table", shared.EXAMPLES / "practice.csv")
         self.assertEqual([line.rsplit(" ", 1)[0] for line in output.splitlines()], [f"graph 2 set {it}" for it in range(8)])
 
     def test_table_that_is_refused(self) -> None:
         path = self.file("table.csv", "2,0,0\n")
-        self.assertEqual(shared.refused("table", "fingerprint", path), f"tools/table: {path}: linksim: refused: table Fields\n")
+        said = f"tools/table: {path}: rejected: table Fields: record 1 of the table does not have eleven fields\n"
+        self.assertEqual(shared.refused("table", "fingerprint", "--table", path), said)

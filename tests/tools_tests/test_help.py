@@ -70,11 +70,12 @@ class Manuals(shared.InFolder):
         said = "".join(f"{self.section('linksim', title)}\n" for title in ("OPTIONS", "DESCRIPTION"))
         for fault in [fault for kind in faults.FILES.values() for fault in [*kind.faults, *kind.later]] + faults.ALWAYS:
             self.assertIn(f".br\n{fault.head}: {fault.line}\n", said)
-        self.assertIn("0 done", self.section("linksim", "EXIT STATUS"))
+        self.assertIn("0 on success", self.section("linksim", "EXIT STATUS"))
 
     def test_tools(self) -> None:
         """A tool's page has each command, and below it each option with what its help says of it."""
-        for words in [["table", "rom"], ["conform", "receiver", "run"], ["conform", "export"], ["curve", "run"], ["vectors"]]:
+        commands = (["table", "rom"], ["conform", "receiver", "run"], ["conform", "export"], ["curve", "run"], ["vectors", "one"])
+        for words in commands:
             said = shared.run([shared.TOOLS / words[0], *words[1:], "--help"])[1].decode()
             part = self.section(f"linksim-{words[0]}", "COMMANDS" if words[1:] else "OPTIONS")
             part = part.partition(f".SS {' '.join(words[1:])}\n")[2].partition("\n.SS")[0] if words[1:] else part

@@ -27,13 +27,18 @@ FACTORS = (2, 3, 5, 7, 9, 11, 13, 15)
 setUpModule = shared.needs_tomllib
 
 
+def command_of(words: typing.Sequence[object]) -> str:
+    """The command that takes these options."""
+    return "many" if any(str(word).startswith(("--count", "--cases")) for word in words) else "one"
+
+
 class Folders(shared.InFolder):
     """What tools/vectors writes into a folder."""
 
     def vectors(self, name: str, *words: object, table: pathlib.Path = TABLE) -> pathlib.Path:
         """The folder that the tool made."""
         place = pathlib.Path(self.folder) / name
-        self.assertEqual(shared.tool("vectors", "--table", table, "--dir", place, *words)[:2], (0, ""))
+        self.assertEqual(shared.tool("vectors", command_of(words), "--table", table, "--out", place, *words)[:2], (0, ""))
         return place
 
     def manifest(self, place: pathlib.Path) -> dict[str, typing.Any]:
@@ -56,7 +61,7 @@ class Folders(shared.InFolder):
         settings = f"rate2048 = {case.rate2048}\n" + (f"lbrm = {case.lbrm}\n" if case.lbrm else "")
         words = [f"--{name}={getattr(case, name)}" for name in ("rv", "g", "qm", "nl", "mask")]
         files = ["--settings", self.file("settings.toml", settings), "--blocks", self.file("block.txt", vector["a"]["hex"] + "\n")]
-        alone = json.loads(shared.made("vectors", "--table", TABLE, *files, *words))
+        alone = json.loads(shared.made("vectors", "one", "--table", TABLE, *files, *words))
         self.assertEqual(alone, {name: value for name, value in vector.items() if name not in ("id", "covers")})
 
     def test_plain_lines(self) -> None:
@@ -99,7 +104,7 @@ class Folders(shared.InFolder):
         """Files of a suite's code blocks, which DPDK's own reader takes; it refuses one that lacks a number."""
         suite = self.file("suite.jsonl", shared.tool("conform", "suite", "--table", TABLE)[1])
         place = self.folder / "data"
-        self.assertEqual(shared.tool("conform", "export", suite, place, "--form", "bbdev", with_program=False)[0], 0)
+        self.assertEqual(shared.tool("conform", "export", suite, "--out", place, "--form", "bbdev", with_program=False)[0], 0)
         cases = {it["id"]: it for it in map(json.loads, suite.read_text().splitlines()[1:])}
         files = sorted(place.glob("*.data"))
         wanted = {f"{name}_{part['r']}.data" for name, it in cases.items() for part in it["codeblocks"] if part["E"]}
@@ -122,7 +127,7 @@ class Folders(shared.InFolder):
         place = self.vectors("made", "--count", 2, "--form", "mem")
         manifest = self.manifest(place)
         made = manifest["made"]
-        fingerprint = shared.tool("table", "fingerprint", TABLE)[1].splitlines()
+        fingerprint = shared.tool("table", "fingerprint", "--table", TABLE)[1].splitlines()
         self.assertEqual((made["fingerprint"], made["table_sha256"]), (fingerprint, hashlib.sha256(TABLE.read_bytes()).hexdigest()))
         self.assertEqual(made["tools"], (shared.ROOT / "VERSION").read_text().strip())
         told = {it["file"]: it["sha256"] for case in manifest["cases"] for it in case["files"].values()} | manifest["run"]
@@ -157,31 +162,31 @@ class Folders(shared.InFolder):
     def refused(self, status: int, said: str, *words: object, table: object = TABLE) -> None:
         """The tool ends so, with one line that has this, and leaves nothing."""
         before = sorted(path.name for path in pathlib.Path(self.folder).iterdir())
-        self.assertIn(said, shared.refused("vectors", "--table", table, *words, status=status))
+        self.assertIn(said, shared.refused("vectors", command_of(words), "--table", table, *words, status=status))
         self.assertEqual(sorted(path.name for path in pathlib.Path(self.folder).iterdir()), before)
 
     def test_refusals(self) -> None:
         place = pathlib.Path(self.folder) / "new"
         line = "id x rate2048 2048 lbrm - rv 0 g 24 qm 1 nl 1 mask all a 01\n"
-        self.refused(2, "--width is 1 to 512: 0", "--count=1", "--form=mem", "--width=0", "--dir", place)
-        self.refused(2, "--width is 1 to 512: 513", "--count=1", "--form=mem", "--width=513", "--dir", place)
-        self.refused(2, "--count is 1 or more: 0", "--count=0", "--dir", place)
-        self.refused(2, "cannot be written", "--count=1", "--dir", place / "below")
-        self.refused(2, "is no empty folder", "--count=1", "--dir", self.file("file", ""))
-        self.refused(2, "is no empty folder", "--count=1", "--dir", self.folder)
-        self.refused(1, "the program refuses its transmission: Rv", *LINK, "--rv=4", "--g=24", "--dir", place)
-        self.refused(1, "/nowhere: linksim: refused: table Read", "--count=1", "--dir", place, table="/nowhere")
-        self.refused(1, "table Fields", "--count=1", "--dir", place, table=self.file("none.csv", "1,2\n3\n"))
+        self.refused(2, "--width must be 1 to 512, and not 0", "--count=1", "--form=mem", "--width=0", "--out", place)
+        self.refused(2, "--width must be 1 to 512, and not 513", "--count=1", "--form=mem", "--width=513", "--out", place)
+        self.refused(2, "--count must be 1 or more, and not 0", "--count=0", "--out", place)
+        self.refused(1, "cannot be written", "--count=1", "--out", place / "below")
+        self.refused(1, "exists and is not empty", "--count=1", "--out", self.file("file", ""))
+        self.refused(1, "exists and is not empty", "--count=1", "--out", self.folder)
+        self.refused(1, "the library rejects it: Rv", *LINK, "--rv=4", "--g=24", "--out", place)
+        self.refused(1, "/nowhere cannot be read", "--count=1", "--out", place, table="/nowhere")
+        self.refused(1, "table Fields", "--count=1", "--out", place, table=self.file("none.csv", "1,2\n3\n"))
         for status, wrong, said in (
-            (2, line.replace("g 24", "g x"), "line 1: g is no number"), (2, line.replace(" a 01", ""), "line 1: a is not there"),
-            (2, line * 2, "line 2: a case before it is x too"), (2, "", "has no case"),
-            (2, line.replace("id x", "id ../x"), "../x: an id that names a file has letters"),
-            (1, line.replace("g 24", "g 23").replace("qm 1", "qm 2"), "x: the program refuses"),
-            (2, "id x rate2048 512 lbrm - rv 0 g 24 qm 1 nl 1 mask all a " + "00" * 955, "cannot be cut; tools/vectors --near"),
+            (1, line.replace("g 24", "g x"), "line 1: g is no number"), (1, line.replace(" a 01", ""), "line 1: a is not there"),
+            (1, line * 2, "line 2: a case before it is x too"), (1, "", "has no case"),
+            (1, line.replace("id x", "id ../x"), "../x: an id that names a file may have only letters"),
+            (1, line.replace("g 24", "g 23").replace("qm 1", "qm 2"), "case x: the library rejects it: Ragged"),
+            (1, "id x rate2048 512 lbrm - rv 0 g 24 qm 1 nl 1 mask all a " + "00" * 955, "cannot be cut; tools/vectors near"),
         ):
-            self.refused(status, said, "--cases", self.file("cases.txt", wrong), "--dir", place)
-        found = shared.tool("vectors", "--table", TABLE, "--count=1")
-        self.assertTrue(found[:2] == (2, "") and "--dir" in found[2], found)
+            self.refused(status, said, "--cases", self.file("cases.txt", wrong), "--out", place)
+        found = shared.tool("vectors", "many", "--table", TABLE, "--count=1")
+        self.assertTrue(found[:2] == (2, "") and "--out" in found[2], found)
 
 
 class Export(shared.InFolder):
@@ -192,7 +197,7 @@ class Export(shared.InFolder):
         no program: here the tools stand by themselves, and none is in PATH."""
         place, tools = pathlib.Path(self.folder) / "all", pathlib.Path(self.folder) / "tools"
         shutil.copytree(shared.TOOLS, tools)
-        words = [sys.executable, tools / "conform", "export", conform_shared.suite_path(), place]
+        words = [sys.executable, tools / "conform", "export", conform_shared.suite_path(), "--out", place]
         status, output, said = shared.run(words, environment={"PATH": "/nowhere"})
         error = said.decode()
         self.assertEqual((status, output), (0, b""))
@@ -214,9 +219,8 @@ class Export(shared.InFolder):
 
     def test_refusals(self) -> None:
         for words, said in (
-            ((self.file("none.jsonl", "{}\n"), "new"), "is no suite"),
-            ((conform_shared.suite_path(), "new", "--width=513"), "--width is"),
-            ((conform_shared.suite_path(), pathlib.Path(self.folder) / "a" / "b"), "cannot be written"),
+            ((self.file("none.jsonl", "{}\n"), "--out=new"), "is not a suite"),
+            ((conform_shared.suite_path(), f"--out={pathlib.Path(self.folder) / 'a' / 'b'}"), "cannot be written"),
         ):
             self.assertIn(said, conform_shared.refused("export", *words))
 
@@ -226,18 +230,18 @@ class Rom(shared.InFolder):
 
     def test_forms(self) -> None:
         """The words of all forms are the same."""
-        mem = [line for line in shared.made("table", "rom", TABLE).splitlines() if not line.startswith("//")]
-        coe = shared.made("table", "rom", "--form=coe", TABLE)
+        mem = [line for line in shared.made("table", "rom", "--table", TABLE).splitlines() if not line.startswith("//")]
+        coe = shared.made("table", "rom", "--form=coe", "--table", TABLE)
         self.assertIn("memory_initialization_radix=16;\nmemory_initialization_vector=\n", coe)
         self.assertEqual(re.findall(r"(?m)^([0-9a-f]{5})[,;]$", coe), mem)
         self.assertTrue(coe.endswith(";\n") and coe.count(";\n") == 2)
-        mif = shared.made("table", "rom", "--form=mif", TABLE)
+        mif = shared.made("table", "rom", "--form=mif", "--table", TABLE)
         self.assertIn(f"WIDTH=17;\nDEPTH={len(mem)};\nADDRESS_RADIX=HEX;\nDATA_RADIX=HEX;\nCONTENT BEGIN\n0 : {mem[0]};\n", mif)
         self.assertEqual(re.findall(r"(?m)^[0-9a-f]+ : ([0-9a-f]{5});$", mif), mem)
 
     def test_reduced(self) -> None:
         """Words of a lifting size have P = V mod Zc, as they stand in the table."""
-        text = shared.made("table", "rom", "--z=4,208", TABLE)
+        text = shared.made("table", "rom", "--z=4,208", "--table", TABLE)
         words = [int(line, 16) for line in text.splitlines() if not line.startswith("//")]
         rows = sorted([int(field) for field in line.split(",")] for line in TABLE.read_text().split())
         self.assertEqual(len(words), 4 * 512)
@@ -245,15 +249,16 @@ class Rom(shared.InFolder):
             found = [(word >> 9 & 127, word & 511) for word in words[at : at + len(rows)]]
             self.assertEqual(found, [(row[2], row[3 + index] % z) for row in rows])
         headed = self.file("headed.csv", f"graph,{'x' * 140_000}{',y' * 9}\n{TABLE.read_text()}")
-        self.assertEqual(shared.made("table", "rom", "--z=4,208", headed), text)
+        self.assertEqual(shared.made("table", "rom", "--z=4,208", "--table", headed), text)
         # The table lacks base graph 1.
         self.assertEqual(set(words[:1024]), {1 << 16})
         self.assertEqual(sum(word >> 16 for word in words[1024:1536]), GRAPHS[2].rows + 512 - len(rows))
 
     def test_refusals(self) -> None:
-        self.assertIn("17 is no lifting size", shared.refused("table", "rom", "--z=17", TABLE, status=2))
+        self.assertIn("17 is not a lifting size", shared.refused("table", "rom", "--z=17", "--table", TABLE, status=2))
         greater = self.file("greater.csv", TABLE.read_text().replace("2,0,2,0,", "2,0,2,512,", 1))
-        self.assertIn("the value 512, and a word has 9 bits", shared.refused("table", "rom", greater, status=2))
-        self.assertEqual(shared.made("table", "rom", "--z=4", greater), shared.made("table", "rom", "--z=4", TABLE))
-        self.assertIn("name a file", shared.refused("table", "rom", "-"))
-        self.assertIn("/nowhere cannot be read: No such file or directory", shared.refused("table", "rom", "/nowhere"))
+        self.assertIn("the value 512, and a word has 9 bits", shared.refused("table", "rom", "--table", greater))
+        one, two = (shared.made("table", "rom", "--z=4", "--table", it) for it in (greater, TABLE))
+        self.assertEqual(one, two)
+        self.assertIn("name a file", shared.refused("table", "rom", "--table", "-"))
+        self.assertIn("/nowhere cannot be read: No such file or directory", shared.refused("table", "rom", "--table", "/nowhere"))

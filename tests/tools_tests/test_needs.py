@@ -23,7 +23,12 @@ case " $* " in *" update "*) exit 0;; esac
 case " $* " in *" nowhere"*) echo "E: Unable to locate package nowhere"; exit 100;; esac
 for it; do :; done
 echo "$it" >> "$HAS/installed"
+if [ "$it" = daemon ]; then
+    ln -s /dev/null "$HAS/units/multi-user.target.wants/daemon.service"
+    [ ! -x "$HAS/policy" ] || echo "$HAS/policy" >> "$HAS/asked_policy"
+fi
 """,
+    "deb-systemd-helper": '#!/bin/sh\n[ -n "$DPKG_MAINTSCRIPT_PACKAGE" ] && rm "$HAS/units/multi-user.target.wants/$2"\n',
 }
 HERE = "one | - | rtl\n"
 AWAY = "two | no-such-program | tools rtl\n"
@@ -40,14 +45,19 @@ class Needs(shared.InFolder):
         for name, text in TOOLS.items():
             (self.folder / "bin" / name).write_text(text)
             (self.folder / "bin" / name).chmod(0o755)
-        for name in ("sh", "grep", "rm"):
+        for name in ("sh", "grep", "rm", "ln"):
             os.symlink(shutil.which(name) or name, self.folder / "bin" / name)
         (self.folder / "installed").write_text("one\n")
+        wants = self.folder / "units" / "multi-user.target.wants"
+        wants.mkdir(parents=True)
+        (wants / "older.service").symlink_to("/dev/null")
 
     def run_needs(self, text: str, *words: str) -> tuple[int, list[str]]:
         (self.folder / "needs.txt").write_text(f"# some\n\n{text}")
         # No pause between the tries.
         script = (self.folder / "needs").read_text().replace("PATIENCE, PAUSE = 600, 5", "PATIENCE, PAUSE = 600, 0")
+        script = script.replace("/etc/systemd/system", str(self.folder / "units"))
+        script = script.replace("/usr/sbin/policy-rc.d", str(self.folder / "policy"))
         (self.folder / "needs").write_text(script)
         path = str(self.folder / "bin")
         ended = subprocess.run(
@@ -55,6 +65,10 @@ class Needs(shared.InFolder):
             stdout=subprocess.PIPE, stderr=subprocess.STDOUT, universal_newlines=True, check=False,
         )
         return ended.returncode, ended.stdout.splitlines()
+
+    @staticmethod
+    def said(*packages: str) -> str:
+        return f"needs: installs {len(packages)} packages, which takes some minutes: {' '.join(packages)}"
 
     def asked(self) -> list[str]:
         """What apt-get was asked for, without its options."""
@@ -80,12 +94,23 @@ class Needs(shared.InFolder):
     @unittest.skipUnless(os.geteuid() == 0, "only root installs")
     def test_installed_after_a_lock(self) -> None:
         (self.folder / "locked").write_text("")
-        self.assertEqual(self.run_needs(HERE + AWAY, "--install"), (0, ["needs: 2 of 2 packages are there"]))
-        self.assertEqual(self.asked(), ["update", "update", "install -y --no-install-recommends two"])
+        self.assertEqual(self.run_needs(HERE + AWAY, "--install"), (0, [self.said("two"), "needs: 2 of 2 packages are there"]))
+        self.assertEqual(self.asked(), ["update", "update", "install -y --no-install-recommends --no-upgrade two"])
+
+    @unittest.skipUnless(os.geteuid() == 0, "only root installs")
+    def test_no_service_is_left_enabled(self) -> None:
+        """What the package enables is disabled again, and Debian is told to start nothing meanwhile; what was enabled before stays."""
+        status, lines = self.run_needs("daemon | - | engines\n", "--install")
+        want = [self.said("daemon"), "needs: daemon.service is installed, and neither started nor enabled"]
+        self.assertEqual((status, lines), (0, [*want, "needs: 1 of 1 packages are there"]))
+        self.assertEqual([it.name for it in self.folder.glob("units/*/*")], ["older.service"])
+        self.assertTrue((self.folder / "asked_policy").exists())
+        self.assertFalse((self.folder / "policy").exists())
 
     @unittest.skipUnless(os.geteuid() == 0, "only root installs")
     def test_one_that_is_not_to_be_had_takes_none_along(self) -> None:
         want = [
+            self.said("nowhere", "two"),
             "needs: nowhere could not be installed: Unable to locate package nowhere",
             "needs: nowhere is missing: tests are skipped in tests/curve",
             "needs: 1 of 2 packages are there",

@@ -21,22 +21,22 @@ explain check --table F P
 explain run --table {table} --settings F --blocks {blocks} --schedule {schedule} P
 explain run --table {table} --settings {settings} --blocks {blocks} --schedule F P
 explain outcome --table {table} --settings F --blocks F --schedule {schedule} P
-vectors --table F --settings {settings} --blocks {blocks} --rv 0 --g 24 P
-vectors --table {table} --settings F --blocks {blocks} --rv 0 --g 24 P
-vectors --table {table} --settings {settings} --blocks F --rv 0 --g 24 P
-vectors --table {table} --cases F --dir N P
+vectors one --table F --settings {settings} --blocks {blocks} --rv 0 --g 24
+vectors one --table {table} --settings F --blocks {blocks} --rv 0 --g 24
+vectors one --table {table} --settings {settings} --blocks F --rv 0 --g 24
+vectors many --table {table} --cases F --out N
 table read --graph 2 F
-table fingerprint F P
-table rom F P
+table fingerprint --table F
+table rom --table F
 curve point F 0 0 P
 curve merge F
 curve limits F P
-conform suite --table F P
-conform suite --table {table} --cases F P
+conform suite --table F
+conform suite --table {table} --cases F
 conform check S F
 conform check F S
 conform plain F
-conform export F N
+conform export F --out N
 conform receiver check R F
 conform receiver check F R
 """
@@ -87,24 +87,26 @@ class Odd(shared.InFolder):
 
     def test_words(self) -> None:
         """Numbers without end, and digits of other scripts: refused at once."""
+        shared.program()
         blocks, table = str(shared.INPUTS["blocks"]), str(shared.INPUTS["table"])
         for rate in ("1e999999999", "1e-999999999", "9" * 5000, "1/" + "9" * 5000, "\u0661"):
             self.assertEqual(self.called(["explain", "cut", "--rate", rate, "--blocks", blocks])[0], 2)
-        self.assertEqual(self.called(["table", "rom", "--z", "\u0668", table])[0], 2)
+        self.assertEqual(self.called(["table", "rom", "--z", "\u0668", "--table", table])[0], 2)
 
     def test_closed_streams(self) -> None:
         """A closed standard output is said in one line, and only if something is written to it."""
         table = shared.INPUTS["table"]
         out = "standard output: it is closed\n"
+        new, closed = self.folder / "new", "standard input cannot be read: "
         calls: list[tuple[list[object], str, str, int]] = [
-            (["explain", "Core"], ">&-", f"tools/explain: {out}", 2), (["table", "fingerprint", table], ">&-", f"tools/table: {out}", 2),
-            (["vectors", "--near", "1000"], ">&-", f"tools/vectors: {out}", 2), (["conform", "points"], ">&-", f"tools/conform: {out}", 2),
-            (["curve", "--help"], ">&-", f"tools/curve: {out}", 2), (["table", "read", "-"], "<&-", "tools/table: standard input cannot be read: ", 1),
-            (["vectors", "--table", table, "--count", "1", "--dir", self.folder / "new"], ">&-", f"{self.folder / 'new'}: 1 vectors\n", 0),
+            (["explain", "Core"], ">&-", f"tools/explain: {out}", 1), (["conform", "points"], ">&-", f"tools/conform: {out}", 1),
+            (["table", "fingerprint", "--table", table], ">&-", f"tools/table: {out}", 1),
+            (["vectors", "near", "1000"], ">&-", f"tools/vectors: {out}", 1), (["curve", "--help"], ">&-", f"tools/curve: {out}", 1),
+            (["table", "read", "-"], "<&-", f"tools/table: {closed}", 1),
+            (["vectors", "many", "--table", table, "--count", "1", "--out", new], ">&-", f"{new}: 1 vectors\n", 0),
         ]
-        for words, closed, said, status in calls:
-            option = ["--program", shared.program()] if words[0] in ("vectors", "table") else []
-            line = " ".join(map(str, [sys.executable, shared.TOOLS / str(words[0]), *words[1:], *option, closed]))
+        for words, stream, said, status in calls:
+            line = " ".join(map(str, [sys.executable, shared.TOOLS / str(words[0]), *words[1:], stream]))
             ended = subprocess.run(["bash", "-c", line], capture_output=True, text=True)
             with self.subTest(line):
                 self.assertTrue(ended.stderr.startswith(said), ended.stderr)
@@ -118,7 +120,7 @@ class Odd(shared.InFolder):
                 assert child.stderr
                 while "linksim_tools.common.early" not in child.stderr.readline():
                     pass
-                child.stderr.readline()
+                child.stderr.readline(), child.stderr.readline()  # the module that calls it, and the first one after that
                 child.send_signal(signal.SIGINT)
                 said = [line for line in child.stderr if not line.startswith("import time:")]
                 with self.subTest(tool):

@@ -3,6 +3,7 @@ intervals hold."""
 
 from __future__ import annotations
 
+import collections
 import itertools
 import math
 import pathlib
@@ -14,7 +15,7 @@ import unittest
 import curve_files
 import shared
 from curve_files import numpy
-from linksim_tools.curve import chunks, draws, intervals, making, pool, results
+from linksim_tools.curve import chunks, failures, intervals, isotonic, making, pool, results
 from linksim_tools.curve import setting as settings
 from test_curve import Conf
 
@@ -24,6 +25,9 @@ RULE = {"rounds": 4000, "points": [0.002, 0.01, 0.05], "step": 0, "errors": 100,
 SMALL = curve_files.text_of(
     curve_files.PRACTICE, curve_files.SHORT, {"a": 8, "g": PLACES, "rvs": [0], "seed": 5}, RULE
 )
+
+
+setUpModule = curve_files.needs_numpy
 
 
 class Intervals(unittest.TestCase):
@@ -93,7 +97,7 @@ class Small(Conf):
         """The rates at points and between them, by the chunks of all points."""
         texts = [shared.made("curve", "point", self.conf, point, 0) for point in self.setting.points]
         lines = results.merged([self.file("c.csv", "".join(texts))])
-        taken = pool.Pool(self.setting, making.shape_of(self.setting, shared.program()), lines, numpy)
+        taken = pool.Pool(self.setting, making.shape_of(self.setting), lines, numpy)
         for p in (0.002, 0.003, 0.005, 0.01, 0.03, 0.05):
             terms = [math.comb(PLACES, k) * p**k * (1 - p) ** (PLACES - k) for k in range(PLACES + 1)]
             exact = sum(term * share for term, share in zip(terms, shares))
@@ -106,9 +110,9 @@ class Small(Conf):
     def test_what_is_told(self) -> None:
         """`curve pool` says the same, at any points; lines of an earlier version have no counts."""
         path = self.file("old.csv", "0.05,0,4000,1,100,100,900\n")
-        self.assertIn("no counts by erased places", shared.refused("curve", "pool", self.conf, path))
+        self.assertIn("no counts by erased bits", shared.refused("curve", "pool", self.conf, path))
         self.file("c.csv", shared.made("curve", "point", self.conf, "0.05", "0"))
-        head, first, second = shared.made("curve", "pool", self.conf, "--at", "0.05", "0").splitlines()
+        head, first, second = shared.made("curve", "pool", self.conf, "--at", "0.05,0").splitlines()
         self.assertEqual(head, "p,transmissions,estimate,low,high,low_if,high_if,events,rounds,reached")
         self.assertEqual((first.split(",")[0], second.split(",")[0]), ("0.05", "0.0"))
         failed = int(results.merged([self.folder / "c.csv"])[0].failed[0])
@@ -128,14 +132,21 @@ def falling(floor: float = 0.0) -> typing.Any:
     return numpy.maximum(numpy.array(shares), floor)
 
 
-def seen(shares: typing.Any, draw: typing.Any, points: list[tuple[float, int]]) -> dict[int, int]:
-    """The failures by K of so many rounds at points."""
-    failed: dict[int, int] = {}
+def lost(shares: typing.Any, draw: typing.Any, p: float, rounds: int) -> list[int]:
+    """How many places were erased in each drawn round that failed."""
+    erased = draw.binomial(WIDE, p, rounds)
+    return [int(k) for k in erased[draw.random(rounds) < shares[erased]]]
+
+
+def drawn(shares: typing.Any, draw: typing.Any, points: list[tuple[float, int]]) -> failures.Failures:
+    """The failures of so many drawn rounds at points."""
+    failed: collections.Counter[int] = collections.Counter()
+    seen = []
     for p, rounds in points:
-        erased = draw.binomial(WIDE, p, rounds)
-        for k in erased[draw.random(rounds) < shares[erased]]:
-            failed[int(k)] = failed.get(int(k), 0) + 1
-    return failed
+        some = lost(shares, draw, p, rounds)
+        failed.update(some)
+        seen.append(isotonic.Seen(p, rounds, float(len(some))))
+    return failures.Failures(WIDE, BITS, seen, failed, numpy)
 
 
 class Coverage(unittest.TestCase):
@@ -143,35 +154,30 @@ class Coverage(unittest.TestCase):
 
     def rate(self, shares: typing.Any, p: float) -> float:
         """The rate at a probability."""
-        return float((numpy.exp(pool.binomial(WIDE, p, 0, WIDE, numpy)) * shares).sum())
+        return float((numpy.exp(failures.binomial(WIDE, p, 0, WIDE, numpy)) * shares).sum())
 
     def test_both_intervals_hold(self) -> None:
         """Over 600 repeats both hold the rate in 95 percent if 36 failures of equal weight were seen, at points and
-        between them. The estimate is not biased."""
+        between them. The estimate is hardly biased against its deviation."""
         shares, draw, repeats = falling(), numpy.random.default_rng(7), 600
+        runs = [drawn(shares, draw, POINTS) for _ in range(repeats)]
         for p in (0.27, 0.265, 0.2625, 0.26):
-            rate, first, second = self.rate(shares, p), 0, 0
-            estimates, events = [], []
-            for _ in range(repeats):
-                found = pool.Failures(WIDE, BITS, POINTS, seen(shares, draw, POINTS), numpy).at(p)
-                assert found.second
-                first += found.first[0] <= rate <= found.first[1]
-                second += found.second[0] <= rate <= found.second[1]
-                estimates.append(found.estimate)
-                events.append(found.events)
-            with self.subTest(p=p, events=statistics.median(events), first=first / repeats, second=second / repeats):
-                self.assertGreaterEqual(statistics.median(events), 36)
+            rate, found = self.rate(shares, p), [run.at(p) for run in runs]
+            first = sum(one.first[0] <= rate <= one.first[1] for one in found)
+            second = sum(one.second is not None and one.second[0] <= rate <= one.second[1] for one in found)
+            events, estimates = statistics.median(one.events for one in found), [one.estimate for one in found]
+            with self.subTest(p=p, events=events, first=first / repeats, second=second / repeats):
+                self.assertGreaterEqual(events, 36)
                 self.assertGreaterEqual(first, 0.95 * repeats)
                 self.assertGreaterEqual(second, 0.95 * repeats)
-                mean, spread = statistics.mean(estimates), statistics.stdev(estimates) / math.sqrt(repeats)
-                self.assertLess(abs(mean - rate), 4 * spread)
+                self.assertLess(abs(statistics.mean(estimates) - rate), 0.5 * statistics.stdev(estimates))
 
     def test_a_floor_that_was_not_seen(self) -> None:
         """With a floor of 2e-5 that no round met, the rate is within the first interval and outside the second."""
         floor, p = 2e-5, 0.255
         shares, draw = falling(floor), numpy.random.default_rng(3)
         made = [*POINTS, (p, 2000)]
-        found = pool.Failures(WIDE, BITS, made, seen(falling(), draw, made), numpy).at(p)
+        found = drawn(falling(), draw, made).at(p)
         rate = self.rate(shares, p)
         self.assertGreaterEqual(found.first[1], 3.68 / sum(rounds for _, rounds in made))
         self.assertTrue(found.first[0] <= rate <= found.first[1])
@@ -179,13 +185,14 @@ class Coverage(unittest.TestCase):
         self.assertLess(found.second[1], rate)
 
     def test_never_below_what_so_many_rounds_can_say(self) -> None:
-        """If nothing failed, the upper end is 3.689 / rounds at the point itself, and higher away from it."""
-        found = pool.Failures(WIDE, BITS, [(0.25, 1000)], {}, numpy)
-        at, near = found.at(0.25), found.at(0.249)
+        """If nothing failed, the upper end is 3.689 / rounds at the point itself, hardly more at any p below it, and more above."""
+        found = failures.Failures(WIDE, BITS, [isotonic.Seen(0.25, 1000, 0.0)], {}, numpy)
+        at, near = found.at(0.25), found.at(0.253)
         self.assertEqual((at.estimate, at.first[0], at.second, at.events), (0.0, 0.0, None, 0.0))
         self.assertAlmostEqual(at.first[1], 3.6889 / 1000, delta=1e-6)
         self.assertGreater(near.first[1], at.first[1])
-        self.assertGreater(found.at(0.2).first[1], 0.9)
+        self.assertLess(found.at(0.2).first[1], 1.2 * at.first[1])
+        self.assertGreater(found.at(0.28).first[1], 0.9)
         # With more than N - K' erased all fail, and nobody has to see it.
         self.assertAlmostEqual(found.at(0.4).estimate, 1.0, delta=1e-9)
 
@@ -232,7 +239,7 @@ class Planted(shared.InFolder):
         words = "0.085:0/0.1:0-2/0.105:0-2/0.11:0-2/0.115:0-2"
         lines = results.merged([self.file("c.csv", shared.made("curve", "point", self.folder / "c.toml", words))])
         self.assertEqual([line.failed for line in lines if line.p == 0.085], [(0,)])
-        shape = making.shape_of(self.setting, shared.program())
+        shape = making.shape_of(self.setting)
         self.assertEqual((shape.kdash, shape.lengths), (21 * LIFTING + SENT_ALONE, (4300,)))
         floor = 1 - (1 - 0.085**4) ** SENT_ALONE
         found = pool.Pool(self.setting, shape, lines, numpy).at(0.085, 1)
@@ -262,7 +269,7 @@ class Several(shared.InFolder):
         conf = self.file("c.toml", SMALL.replace("a = 8", "a = 4000").replace("rate2048 = 512", "rate2048 = 400").replace(
             f"g = {PLACES}", "g = 10002").replace("rounds = 4000", "rounds = 150"))
         setting = settings.read_setting(conf)
-        shape = making.shape_of(setting, shared.program())
+        shape = making.shape_of(setting)
         self.assertEqual((shape.kdash, shape.lengths), (2036, (5000, 5002)))
         lines = results.merged([self.file("c.csv", shared.made("curve", "point", conf, "0.02:0/0.05:0/0.08:0"))])
         taken = pool.Pool(setting, shape, lines, numpy)
@@ -274,20 +281,3 @@ class Several(shared.InFolder):
             self.assertAlmostEqual(found.estimate, line.failed[0] / line.rounds, delta=0.12)
             self.assertTrue(found.low <= line.failed[0] / line.rounds <= found.high)
         self.assertTrue(any(0.1 < line.failed[0] / line.rounds < 0.9 for line in lines), [line.failed for line in lines])
-
-
-class Counted(unittest.TestCase):
-    def test_with_numpy_and_without(self) -> None:
-        """Both count the same places, code block by code block."""
-        draw = random.Random(6)
-        some = [[120], [8192], [8193], [20_000], [8, 16, 16], [3000] * 7, [1] * 5]
-        for lengths in (*some, [0, 0, 8], [0, 9], [8, 0, 0, 16], [8, 0], [9000, 0, 0], [0, 5, 0, 5, 0]):
-            one, other = draws.ArrayCounting(lengths, numpy), draws.PlainCounting(lengths)
-            for threshold in (0, 1, 2**31, 2**32 - 1, draw.randrange(2**32)):
-                seed = draw.randrange(2**64)
-                self.assertEqual(one.counts(seed, threshold), other.counts(seed, threshold), (lengths, threshold))
-
-
-def load_tests(loader: unittest.TestLoader, tests: unittest.TestSuite, _: object) -> unittest.TestSuite:
-    """All classes with numpy."""
-    return curve_files.with_numpy(loader, "test_pool", [Intervals, Small, Coverage, Planted, Blocks, Several, Counted])

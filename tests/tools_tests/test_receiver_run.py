@@ -120,17 +120,17 @@ class Asked(Run):
 
     def test_lists(self) -> None:
         status, output, _ = receiver_shared.receiver("mistakes", receiver_shared.suite_path())
-        self.assertEqual((status, len(output.splitlines())), (0, 124))
+        self.assertEqual((status, len(output.splitlines())), (0, 122))
         self.assertEqual([line for line in output.splitlines() if int(line.split()[0]) == 0], [])
         self.assertEqual(output.count("the same blocks as"), 2)
         status, output, _ = receiver_shared.receiver("points", receiver_shared.suite_path())
         self.assertEqual((status, len(output.splitlines())), (0, 1 + len(receiver_shared.suite().cases)))
 
     def test_bounds(self) -> None:
-        """A suite has at most 165 cases and 1.5 million values, all contents are drawn, and a mirror is never delivered."""
+        """A suite has at most 330 cases and 2 million values, all contents are drawn, and a mirror is never delivered."""
         cases = [kept for kept in receiver_shared.suite().cases.values()]
-        self.assertLessEqual(len(cases), 165)
-        self.assertLessEqual(sum(kept.case.size for kept in cases), 1_500_000)
+        self.assertLessEqual(len(cases), 330)
+        self.assertLessEqual(sum(kept.case.size for kept in cases), 2_000_000)
         for kept in cases:
             if kept.case.mirror:
                 self.assertEqual({it[0] for it in kept.right}, {"-"}, kept.case.id)
@@ -189,9 +189,9 @@ class Stopped(Run):
 
     def test_no_command(self) -> None:
         status, lines, error = self.run_("/nowhere/receiver")
-        self.assertEqual((status, lines), (2, []))
+        self.assertEqual((status, lines), (1, []))
         self.assertEqual(error, ["tools/conform: /nowhere/receiver cannot be started: No such file or directory"])
-        said = conform_shared.refused("receiver", "run", receiver_shared.few_path())
+        said = conform_shared.refused("receiver", "run", receiver_shared.few_path(), status=2)
         self.assertEqual(said, "no command: write it after --")
 
     def test_answers_that_cannot_be_judged(self) -> None:
@@ -204,7 +204,7 @@ class Stopped(Run):
             "the suite has no case x": "it['id'] = 'x'",
             f"case {second} has no transmission 9: it has 1, from 0 on": "it['tx'] = 9",
             "delivered is not answered":
-                "print(json.dumps({'id': it['id'], 'tx': 0}), flush=True); continue",
+                "print(json.dumps({'id': it['id'], 'tx': 0, 'passed': '1'}), flush=True); continue",
             "delivered has other characters than hexadecimal digits":
                 "print(json.dumps({'id': it['id'], 'tx': 0, 'delivered': 'xyz'}), flush=True); continue",
             "soft has other characters than 0 + -":
@@ -236,6 +236,25 @@ class Checked(Run):
         self.assertIn(f"{path} line 3: no tx that is a whole number, for case fresh-24", output)
         self.assertIn(f"{path} line 4: transmission 0 of case nothing-24 was answered before", output)
         self.assertIn("1 line that is no answer was left out; the first begins '\\x00x'", output)
+
+    def test_not_supported(self) -> None:
+        """A case of which only the transmission is named is not judged, and told."""
+        status, output, error = self.check('{"id": "flip-24", "tx": 0}\n{"id": "nothing-24", "tx": 0, "delivered": null}')
+        self.assertEqual((status, error, output[0]), (0, "", "suite quick: 6 cases, 1 answered"))
+        self.assertIn("not supported: flip-24", output)
+
+    def test_one_case_for_ci(self) -> None:
+        """`--only` judges one case, and `--junit` writes a test for each."""
+        path = self.folder / "junit.xml"
+        answers = "id nothing-24 tx 0 delivered 000000\nid flip-24 tx 0 delivered -\n"
+        status, output, error = self.check(answers, "--plain", "--only", "flip-24", "--junit", str(path))
+        self.assertEqual((status, error, output[0]), (0, "", "suite quick: 1 cases, 1 answered"))
+        self.assertIn('<testcase name="flip-24"></testcase>', path.read_text())
+        status, output, error = self.check(answers, "--plain", "--junit", str(path))
+        self.assertEqual((status, error), (1, ""))
+        self.assertIn('failures="1" errors="0" skipped="4">', path.read_text())
+        said = '<testcase name="nothing-24"><failure message="fails in CRC and desegmentation"/></testcase>'
+        self.assertIn(said, path.read_text())
 
     def test_too_few_values(self) -> None:
         """Fewer values than a code block has are not right, also if those that are there are; so are too many."""
@@ -277,13 +296,13 @@ class Checked(Run):
         made = json.loads(output)
         self.assertEqual((status, error, made["failing"]), (1, "", ["nothing-24"]))
         self.assertIn(["zeros-delivered"], [[it["name"] for it in names] for names in made["diagnosis"]["mistakes"]])
-        self.assertEqual(made["first"]["difference"][0], "it hands up 000000, right is nothing")
+        self.assertEqual(made["first"]["difference"][0], "it delivers 000000, right is nothing")
 
     def test_no_suite(self) -> None:
+        none = "is not a suite for receivers: its first line is not a suite header (create one with tools/conform receiver suite"
         for text, said in (
-            ("", "is no suite for receivers: its first line is not what tools/conform receiver suite writes"),
-            ('{"conform": 1}', "is no suite for receivers: its first line is not what tools/conform receiver suite writes; "
-             "it is a suite for encoders"),
+            ("", f"{none})"),
+            ('{"conform": 1}', f"{none}); it is a suite for encoders"),
             ("x", "line 1: not JSON: Expecting value: line 1 column 1 (char 0)"),
         ):
             path = self.file("suite.jsonl", text)

@@ -202,6 +202,8 @@ class Refusals(shared.InFolder):
             reading.read(texts.lines_of("text", text.encode()))
         said = str(caught.exception)
         self.assertNotIn("\n", said)
+        self.assertRegex(said, "^text[,:]")
+        self.assertLess(len(said), 400)
         return said
 
     def refused(self, text: str, row: int) -> None:
@@ -270,7 +272,7 @@ class Refusals(shared.InFolder):
         for name, new in {"a field less": ",".join(fields[:-1]), "a comment": "# a note"}.items():
             with self.subTest(name):
                 text = "\n".join([*lines[:at], new, *lines[at + 1 :]])
-                self.assertIn(f"line {at + 1}: no record of 11 numbers", self.fails(text))
+                self.assertIn(f"line {at + 1}: not a record of 11 numbers", self.fails(text))
 
     def test_no_table_in_it(self) -> None:
         for name, octets in {

@@ -11,18 +11,20 @@ import test_documents
 
 # What Python 3.8 runs: the tools, and what makes the packages.
 SHIPPED = [
-    "tools/linksim_tools", "packaging/packages", "packaging/dist", "tools/conform", "tools/curve", "tools/explain",
-    "tools/first-build", "tools/table", "tools/vectors",
+    "c/nr", "c/nr_build.py",
+    "tools/linksim_tools", "packaging/packages", "packaging/dist", "tools/certify", "tools/conform", "tools/curve", "tools/explain",
+    "tools/first-build", "tools/table", "tools/vectors", "tools/verify",
 ]
 # Their tests and the program's, and the other scripts, which Python 3.9 runs: two lists, since some names stand in both.
 SUITES = ("rtl", "engines", "c-library", "packages", "tools")
 SCRIPTS = (
-    "believed-words", "curve-coverage", "dropped-clauses", "gate-times", "needs", "quick", "refused-growths",
-    "signatures", "with-table", "wrong-bodies",
+    "curve-coverage", "generated", "needs", "quick", "refused-growths", "with-table",
 )
+GATE = ("believed-words", "dropped-clauses", "prices", "times", "wrong-bodies")
 TESTS = [
     [
         *(f"tests/{name.replace('-', '_')}_tests" for name in SUITES), *(f"tests/{name}" for name in (*SUITES, *SCRIPTS)),
+        *(f"gate/{name}" for name in GATE),
         "examples/draw-table", "bench/inputs.py", "bench/throughput", "bench/python_calls",
     ],
     ["tests/model", "tests/program_tests", "tests/program"],

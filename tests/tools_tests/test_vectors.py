@@ -39,7 +39,8 @@ class Rebuilt(shared.InFolder):
             "settings": self.file("settings.toml", settings),
             "blocks": self.file("blocks.txt", "ff\r\n" + octets.hex() + "\n"),
         }
-        made: Vector = json.loads(shared.made("vectors", *shared.options(files | transmission), "--block", "2", "--pack", "bits"))
+        words = [*shared.options(files | transmission), "--block", "2", "--pack", "bits"]
+        made: Vector = json.loads(shared.made("vectors", "one", *words))
         return made
 
     def check(
@@ -144,30 +145,60 @@ class Refused(shared.InFolder):
 
     def refused(self, said: str, *words: str | pathlib.Path) -> None:
         """These words after the files are refused, and the line has this in it."""
-        self.assertIn(said, shared.refused("vectors", *shared.options(shared.INPUTS), *words))
+        self.assertIn(said, shared.refused("vectors", "one", *shared.options(shared.INPUTS), *words))
 
     def test_refusals(self) -> None:
-        self.refused("the program refuses its transmission: Rv", "--rv=4", "--g=8")
-        self.refused("the program refuses its transmission: Ragged", "--rv=0", "--g=9", "--qm=2")
-        self.refused("the program refuses its transmission: NoneScheduled", "--rv=0", "--g=8", "--mask=7")
-        less = self.file("less.toml", "rate2048 = 2048\nlbrm = 0\n")
-        self.refused("case block-2: the program refuses its block: NoBuffer", "--rv=0", "--g=8", "--block=2", "--settings", less)
+        self.refused("case block-1: the library rejects it: Rv", "--rv=4", "--g=8")
+        self.refused("case block-1: the library rejects it: Ragged", "--rv=0", "--g=9", "--qm=2")
+        self.refused("case block-1: the library rejects it: NoneScheduled", "--rv=0", "--g=8", "--mask=7")
+        self.refused("case block-1: the library rejects it: g is 99999999999, and not 0 to", "--rv=0", "--g=99999999999")
+        less, long = self.file("less.toml", "rate2048 = 512\nlbrm = 1\n"), self.file("long.txt", "00" * 999 + "\n")
+        self.refused("case block-1: the library rejects it: NoBuffer", "--rv=0", "--g=8", "--settings", less, "--blocks", long)
+        none = self.file("none.toml", "rate2048 = 2048\nlbrm = 0\n")
+        self.refused("lbrm is not a whole number from 1 to 4294967295", "--rv=0", "--g=8", "--settings", none)
         self.refused("has no block 4", "--rv=0", "--g=8", "--block=4")
         self.refused("has no block 0", "--rv=0", "--g=8", "--block=0")
-        self.refused("--mask is all", "--rv=0", "--g=8", "--mask=x")
-        self.refused("linksim: refused: table Read", "--rv=0", "--g=8", "--table=/nowhere")
-        self.refused("rate2048 is no whole number of 1 to 2048", "--rv=0", "--g=8", "--settings", self.file("empty.toml", ""))
-        self.refused("linksim: refused: blocks Digit 1", "--rv=0", "--g=8", "--blocks", self.file("blocks.txt", "0x01\n"))
+        self.refused("--mask must be all", "--rv=0", "--g=8", "--mask=x")
+        self.refused("/nowhere cannot be read", "--rv=0", "--g=8", "--table=/nowhere")
+        self.refused("rate2048 is not a whole number from 1 to 2048", "--rv=0", "--g=8", "--settings", self.file("empty.toml", ""))
+        odd = self.file("blocks.txt", "0x01\n")
+        self.refused("blocks.txt block 1 is not an even number of hexadecimal digits", "--rv=0", "--g=8", "--blocks", odd)
         more = self.file("more.toml", "rate2048 = 1\nx = 2")
-        self.refused("x is no key of settings", "--rv=0", "--g=8", "--settings", more)
+        self.refused("x is not a key of the settings", "--rv=0", "--g=8", "--settings", more)
 
     def test_usage(self) -> None:
-        status, _, error = shared.tool("vectors", "--rv=0")
-        self.assertEqual(status, 2)
-        self.assertIn("--settings", error)
-        for many in ("--count=1", f"--cases={self.folder}"):
-            said = shared.refused("vectors", *shared.options(shared.INPUTS), "--rv=0", many, "--dir", self.folder / "new", status=2)
-            self.assertIn(": not with --count or --cases, whose vectors have their own: --settings, --blocks, --rv\n", said)
+        for words, said in (
+            (["one", "--rv=0"], "the following arguments are required: --table"),
+            (["many", "--table=t", "--count=1", "--rv=0"], "unrecognized arguments: --rv=0"),
+            (["many", "--table=t", "--out=d"], "--count or --cases is required"),
+            (["many", "--table=t", "--count=1"], "--out is required"),
+        ):
+            status, _, error = shared.tool("vectors", *words)
+            self.assertEqual((status, error.splitlines()[-1].partition("error: ")[2]), (2, said))
+
+    def test_older_forms(self) -> None:
+        """The options without a command, as earlier releases took them, do the same with a hint."""
+        files, hint = shared.options(shared.INPUTS), "tools/vectors: this form is deprecated and goes with the next release; write "
+        for old, new in (
+            ([*files, "--rv=0", "--g=24"], ["one", *files, "--rv=0", "--g=24"]), (["--near", "100"], ["near", "100"]),
+            (["--rate=512", "--near=100"], ["near", "100", "--rate=512"]),
+        ):
+            status, output, error = shared.tool("vectors", *old)
+            self.assertEqual((status, output, error), (0, shared.made("vectors", *new), f"{hint}tools/vectors {new[0]} ..\n"))
+        words = ["--table", shared.INPUTS["table"], "--count=2"]
+        self.assertEqual(shared.tool("vectors", *words, "--dir", self.folder / "old")[0], 0)
+        self.assertEqual(shared.tool("vectors", "many", *words, "--out", self.folder / "new")[0], 0)
+        one, two = ({path.name: path.read_bytes() for path in (self.folder / name).iterdir()} for name in ("old", "new"))
+        self.assertEqual((one, len(one)), (two, 3))
+
+    def test_out(self) -> None:
+        """A file is there whole, or as it was."""
+        words, place = ["vectors", "one", *shared.options(shared.INPUTS), "--rv=0"], self.folder / "v.json"
+        wanted = shared.made(*words, "--g=24")
+        self.assertEqual(shared.made(*words, "--g=24", "--out", place), "")
+        shared.refused(*words, "--g=0", "--out", place)
+        self.assertEqual((place.read_text(), [path.name for path in self.folder.iterdir()]), (wanted, ["v.json"]))
+        self.assertIn("/nowhere/v.json: No such file", shared.refused(*words, "--g=24", "--out=/nowhere/v.json"))
 
 
 class Packings(unittest.TestCase):
@@ -196,7 +227,7 @@ class Packings(unittest.TestCase):
         files = shared.options(shared.INPUTS)
         for name, value in {"hex": "102103", "octets": [16, 33, 3], "lsb": [8, 132, 192], "le32": ["0x032110"]}.items():
             with self.subTest(name):
-                output = shared.made("vectors", *files, "--rv=0", "--g=24", f"--pack={name}")
+                output = shared.made("vectors", "one", *files, "--rv=0", "--g=24", f"--pack={name}")
                 self.assertEqual(json.loads(output)["sent"], {"count": 24, name: value})
 
 
@@ -205,7 +236,7 @@ class Near(unittest.TestCase):
 
     def sizes(self, wanted: int, rate: int = 2048) -> dict[str, int]:
         """By `exact`, `below` and `above` the size, as `near` names it."""
-        lines = near.near(shared.program(), rate, wanted)
+        lines = near.near(rate, wanted)
         return {line.split()[0]: program.plan_of("block 1 " + line.partition(" ")[2])["a"] for line in lines}
 
     def test_base_graph_1(self) -> None:
@@ -226,7 +257,7 @@ class Near(unittest.TestCase):
         self.assertEqual(self.sizes(8), {"exact": 8, "above": 16})
 
     def test_tool(self) -> None:
-        lines = shared.made("vectors", "--near", "20000").splitlines()
+        lines = shared.made("vectors", "near", "20000").splitlines()
         self.assertEqual([line.split()[:3] for line in lines], [["below", "a", "19992"], ["above", "a", "20016"]])
-        said = "tools/vectors: a transport block has 1 to 1310720 bits here: 0\n"
-        self.assertEqual(shared.refused("vectors", "--near", "0"), said)
+        said = "tools/vectors: a size must be 1 to 1310720 bits, and not 0\n"
+        self.assertEqual(shared.refused("vectors", "near", "0"), said)

@@ -17,3 +17,8 @@ def words(seed: int, count: int, stream: int = 54) -> typing.Iterator[int]:
         turn = state >> 59
         yield (mixed >> turn | mixed << (-turn & 31)) & BELOW_32
         state = (state * MULTIPLIER + increment) & BELOW_64
+
+
+def places(seed: int, threshold: int, count: int) -> list[int]:
+    """Which of so many places are erased."""
+    return [place for place, word in enumerate(words(seed, count)) if word < threshold]

@@ -6,24 +6,29 @@ import itertools
 import pathlib
 import re
 import sys
+import textwrap
 import typing
 
 ROOT = pathlib.Path(__file__).resolve().parent.parent
 sys.path.insert(0, str(ROOT / "tools"))
 
 import crate_list  # noqa: E402  (these are in folders that are named by now)
+import generated_bindings  # noqa: E402
 from linksim_tools.common import faults  # noqa: E402
 
 Fault = faults.Fault
 # The statuses of nr.h in groups, each from its first number on.
-GROUPS = {
-    0: "", 20: "of the shift table's text", 31: "of a shift table's entries, beside 26 to 29", 40: "of the transport block",
-    50: "of a transmission",
-}
+GROUPS = {0: "", 20: "shift table, as text", 31: "shift table, as entries; also 26 to 29", 40: "transport block", 50: "transmission"}
+# The other names of version 0.2, which NR_SHORT_NAMES brings back, with those that nr.h has in their place.
+SHORT_NAMES = [
+    ("NR_ZERO", "NR_BIT_0"), ("NR_ONE", "NR_BIT_1"), ("NR_ERASED", "NR_BIT_ERASED"), ("NR_FILLER", "NR_BIT_FILLER"),
+    *((f"NR_{name}", f"NR_OUTCOME_{name}") for name in ("OPEN", "DELIVERED", "CONTRADICTION")),
+    *((f"NR_{name}", f"NR_POLY_{name}") for name in ("CRC24A", "CRC24B", "CRC16")),
+]
 # In Rust these cannot happen: a polynomial and a table are types. No call returns the others.
 NOT_IN_RUST = {4, 31, 42, 43, 44}
-MADE = "made by tests/signatures from tools/linksim_tools/common/faults.txt"
-MARKS = (r"<!-- made by tests/signatures: faults of (\w+) -->\n", "<!-- end of what tests/signatures made -->\n")
+MADE = "made by tests/generated from tools/linksim_tools/common/faults.txt"
+MARKS = (r"<!-- made by tests/generated: faults of (\w+) -->\n", "<!-- end of what tests/generated made -->\n")
 
 
 def by_status() -> list[Fault]:
@@ -38,21 +43,30 @@ def anywhere(sentence: str) -> str:
 
 def constant(fault: Fault) -> str:
     """The name of a status in nr.h."""
-    return "NR_" + re.sub(r"(?<=[a-z])(?=[A-Z])", "_", fault.name).upper()
+    return "NR_ERR_" + generated_bindings.upper(fault.name)
 
 
 def header(text: str) -> str:
-    """nr.h: the statuses in groups, each with its sentence."""
-    lines = ["enum NrStatus {", "    NR_OK = 0,"]
+    """nr.h: the statuses in groups, each with its sentence; the names of version 0.2; and the errors of each call."""
+    lines = ["typedef enum NrStatus {", "    NR_OK = 0,"]
     for first, group in itertools.groupby(by_status(), key=lambda it: max(it_ for it_ in GROUPS if it_ <= it.status)):
         members = [(f"{constant(it)} = {it.status},", it) for it in group]
         width = max(len(member) for member, _ in members)
         lines += [f"    /* {GROUPS[first]} */"] if GROUPS[first] else []
-        for member, it in members:
-            said = it.note or anywhere(it.sentence).partition(":")[0]
-            lines.append(f"    {member:<{width}} /* {said} */")
+        lines += [f"    {member:<{width}} /* {it.note or anywhere(it.sentence).partition(':')[0]} */" for member, it in members]
     lines[-1] = lines[-1].replace(",", " ", 1)
-    return within(text, r"enum NrStatus \{\n.*?\n(?=\};)", "\n".join(lines) + "\n")
+    text = within(text, r"typedef enum NrStatus \{\n.*?\n(?=\} NrStatus;)", "\n".join(lines) + "\n")
+    return generated_bindings.for_header(text)
+
+
+def for_short_names(_text: str) -> str:
+    """nr_short_names.h: what version 0.2 called the constants of nr.h."""
+    short = [(constant(it).replace("_ERR", "", 1), constant(it)) for it in by_status()] + SHORT_NAMES
+    pairs = textwrap.wrap(", ".join(f"{old}~=~{new}" for old, new in short), 128)
+    about = f"""/* The names that nr.h had up to version 0.2, for programs that define NR_SHORT_NAMES before they include it. Linux's headers, for
+   one, have NR_OPEN as a macro. {MADE.replace('made', 'Made')}. */
+"""
+    return about + "enum NrShortNames {\n" + "".join(f"    {line}\n" for line in pairs).replace("~", " ") + "};\n"
 
 
 def for_c(_text: str) -> str:
@@ -105,7 +119,7 @@ def for_page(text: str) -> str:
 
     def table(found: re.Match[str]) -> str:
         rows = [row(fault) for fault in faults.SECTIONS[found[2]] if fault.cause]
-        return f"{found[1]}\n| Fault | Cause | Remedy |\n|---|---|---|\n" + "\n".join(rows) + f"\n\n{found[3]}"
+        return f"{found[1]}\n| Error | Cause | Remedy |\n|---|---|---|\n" + "\n".join(rows) + f"\n\n{found[3]}"
 
     return re.sub(f"({MARKS[0]}).*?({MARKS[1]})", table, text, flags=re.DOTALL)
 
@@ -120,7 +134,7 @@ def for_map(text: str) -> str:
             first = re.split(r"\. ", page.partition("\n\n")[2].partition("\n\n")[0].replace("\n", " ") + " ")[0]
             plain = re.sub(r"\[([^\]]*)\]\([^)]*\)", r"\1", first)
             lines.append(f"| [{crate}](../crates/{crate}/README.md) | {plain} |")
-    return within(text, f"(?<=<!-- made by tests/signatures: layers -->\n).*?(?={MARKS[1]})", "\n".join([*lines, "", ""]))
+    return within(text, f"(?<=<!-- made by tests/generated: layers -->\n).*?(?={MARKS[1]})", "\n".join([*lines, "", ""]))
 
 
 def within(text: str, form: str, made: str) -> str:
@@ -130,14 +144,24 @@ def within(text: str, form: str, made: str) -> str:
     return text[: found.start()] + made + text[found.end() :]
 
 
+def versioned(form: str) -> typing.Callable[[str], str]:
+    """A file whose lines of this form, with a version after it, have that of the file VERSION."""
+    number = (ROOT / "VERSION").read_text().strip()
+    return lambda text: re.sub(rf'(?m)^({form} ?)".*?"', rf'\g<1>"{number}"', text)
+
+
 TEXTS: dict[str, typing.Callable[[str], str]] = {
-    "c/nr.h": header,
+    "c/nr.h": lambda text: versioned("#define NR_VERSION")(header(text)),
+    "c/nr_short_names.h": for_short_names,
     "c/octave/nr_sentences.h": for_c,
     "c/nr/_faults.py": for_python,
     "c/rust/src/fault.rs": for_rust,
     "crates/nr_job/src/command_line/texts.rt": for_help,
+    "crates/nr_job/src/command_line/apps.rt": versioned("const VERSION: &str ="),
+    "c/rust/Cargo.toml": versioned("version ="),
     "docs/formats.md": for_page,
     "docs/architecture.md": for_map,
+    **generated_bindings.TEXTS,
 }
 
 

@@ -1,0 +1,77 @@
+"""What `tools/conform` says of mistakes that have no name: each is planted in the chain of the model."""
+
+from __future__ import annotations
+
+import dataclasses
+import typing
+import unittest
+
+import conform_shared
+from linksim_tools.conform.case import Case
+from linksim_tools.conform.clauses import Clauses
+from linksim_tools.conform.encoder import report as reporting
+
+SEQUENCE = f"{0x9D4F13C2B76E0A85D3F1247C9B60E58A:0128b}" * 20_000
+
+
+def added(bits: str) -> str:
+    """The bits with a sequence added to them."""
+    return f"{int(bits, 2) ^ int(SEQUENCE[: len(bits)], 2):0{len(bits)}b}" if bits else bits
+
+
+def shares(case: Case, chosen: typing.Sequence[int], unit: int, count: int) -> dict[int, int]:
+    """E_r whose first code blocks are the longer ones."""
+    least, longer = divmod(case.g // unit, count)
+    return {r: (least + (j < longer)) * unit for j, r in enumerate(chosen)}
+
+
+class Pointers(unittest.TestCase):
+    """What is said of one method of the chain that is another one."""
+
+    def said(self, **methods: typing.Callable[..., typing.Any]) -> str:
+        """The report from the diagnosis on."""
+        made = reporting.report(conform_shared.suite(), conform_shared.answers_of(type("Wrong", (Clauses,), methods)()))
+        text = "\n".join(reporting.text(made))
+        return text[text.find("diagnosis") :]
+
+    def test_a_sequence_is_added(self) -> None:
+        said = self.said(joined=lambda self, f: added(Clauses.joined(self, f)))
+        self.assertIn("the same sequence is added to the right bits in all", said)
+
+    def test_parity_bits_that_never_change(self) -> None:
+        said = self.said(crc_output=lambda self, parity: "0" + parity[1:])
+        self.assertIn("parity bits of the CRC of 16 bits that never change: p_0 = 0", said)
+
+    def test_shifts_that_were_used(self) -> None:
+        said = self.said(shift=lambda self, value, z, largest: (value + (value % 7 == 3)) % z)
+        self.assertRegex(said, r"shifts that were used: V = \d+, Zc = \d+: P = \d+, used is \d+")
+
+    def test_lengths_are_composed(self) -> None:
+        """Of another unit and another place of the longer ones, and of a value of NL that is taken for another one."""
+        said = self.said(lengths=lambda self, case, c, chosen: [
+            shares(case, chosen, case.qm, len(chosen)).get(r, 0) for r in range(c)])
+        self.assertIn("the unit is Qm, the longer ones come first", said)
+        said = self.said(told=lambda self, case, before: dataclasses.replace(case, nl=2 if case.nl == 3 else case.nl))
+        self.assertIn("NL = 3 is taken as 2", said)
+
+    def test_conditions_are_of_what_a_step_consumes(self) -> None:
+        said = self.said(lengths=lambda self, case, c, chosen: Clauses.lengths(self, case, c, chosen)[:: -1 if case.nl == 4 else 1])
+        self.assertIn("exactly where NL = 4", said)
+        said = self.said(shift=lambda self, value, z, largest: (value + (z == 384 and value > 300)) % z)
+        self.assertRegex(said, "exactly where (base graph [12] and )?Zc = 384")
+
+    def test_a_wrong_base_graph_accuses_no_later_step(self) -> None:
+        """Where it leaves code blocks of no one length the clauses say nothing of them."""
+        said = self.said(base_graph=lambda self, a, rate: 2 if a <= 3824 else 1,
+                         bits_of_code_block=lambda self, b, c, l: -(-(b + c * l) // c))
+        self.assertNotIn("step segmentation", said)
+
+    def test_more_code_blocks_and_rounds(self) -> None:
+        """A count of more than eight code blocks, and more than three rounds of the buffer."""
+        said = self.said(lengths=lambda self, case, c, chosen: Clauses.lengths(self, case, c, chosen)[
+            :: -1 if len(chosen) > 8 else 1])
+        self.assertIn("E of the code blocks stands in reverse", said)
+        found = self.said(selected=lambda self, d, first, length, count: (
+            lambda e, most: e[:most] + "0" * (len(e) - len(e[:most])))(
+                Clauses.selected(self, d, first, length, count), 3 * len(self.ring(d, length).replace("-", ""))))
+        self.assertIn("step selection", found)
