@@ -45,7 +45,8 @@ static void read_table(const char *folder, const char *name, struct table *to) {
     to->length = fread(to->text, 1, sizeof to->text, file);
     fclose(file);
     table = to;
-    if (read_entries() != NR_ROOM || to->count > 512 || read_entries() != NR_OK) refuse(path, "no shift table of 512 entries at most");
+    if (read_entries() != NR_ERR_ROOM || to->count > 512 || read_entries() != NR_OK)
+        refuse(path, "no shift table of 512 entries at most");
 }
 
 static uint32_t plan(void) {
@@ -53,7 +54,7 @@ static uint32_t plan(void) {
     return nr_plan(2048, (uint32_t)(8 * octets), &numbers);
 }
 
-static uint32_t crc(void) { return nr_crc(NR_CRC24A, block, octets, &answer); }
+static uint32_t crc(void) { return nr_crc(NR_POLY_CRC24A, block, octets, &answer); }
 
 static uint32_t check_table(void) {
     NrReport report;
@@ -98,7 +99,7 @@ static void link_of(struct table *by, size_t length, const char *name) {
     show(what, send);
     snprintf(what, sizeof what, "nr_receive, the same");
     show(what, receive);
-    if (answer != NR_DELIVERED) printf("(not delivered)\n");
+    if (answer != NR_OUTCOME_DELIVERED) printf("(not delivered)\n");
 }
 
 int main(int count, char **words) {

@@ -40,7 +40,7 @@ static void lower(double *best, double begin) {
 static void draw(uint32_t *state, uint32_t odds) {
     for (size_t place = 0; place < TXS * (size_t)txs[0].g; place++) {
         *state = *state * 1664525u + 1013904223u;
-        heard[place] = (*state >> 16) % 1000 < odds ? NR_ERASED : NR_ZERO;
+        heard[place] = (*state >> 16) % 1000 < odds ? NR_BIT_ERASED : NR_BIT_0;
     }
 }
 
@@ -90,7 +90,7 @@ static void measure_block(uint32_t bits, uint32_t g, uint32_t odds) {
 
 int main(void) {
     size_t length = fread(text, 1, sizeof text, stdin);
-    if (nr_table_entries(text, length, table, 0, &table_len) != NR_ROOM || table_len > 512) judge(NR_MANY);
+    if (nr_table_entries(text, length, table, 0, &table_len) != NR_ERR_ROOM || table_len > 512) judge(NR_ERR_MANY);
     judge(nr_table_entries(text, length, table, table_len, &table_len));
     measure_block(8448, 16896, 800);
     measure_block(3840, 5760, 270);

@@ -68,7 +68,7 @@ static void measure(const struct setting *s) {
 int main(void) {
     size_t length = fread(text, 1, sizeof text, stdin);
     table_len = 0;
-    if (nr_table_entries(text, length, table, 0, &table_len) != NR_ROOM || table_len > MOST_ENTRIES) return 1;
+    if (nr_table_entries(text, length, table, 0, &table_len) != NR_ERR_ROOM || table_len > MOST_ENTRIES) return 1;
     judge(nr_table_entries(text, length, table, table_len, &table_len));
     for (size_t i = 0; i < sizeof settings / sizeof *settings; i++) measure(&settings[i]);
     return 0;
