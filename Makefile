@@ -1,28 +1,34 @@
-# Installs the program with its tools, man pages and completions, and the library (c/Makefile); and makes the packages:
+# What everybody may want to do at the top of the repository:
 #
-#   make install PREFIX=/usr/local DESTDIR=     after `rt run` in crates/linksim and `rt lib` in crates/nr_c
-#   make uninstall PREFIX=.. DESTDIR=..         takes away what install put there
-#   make dist                                   the packages, in dist/ (docs/install.md)
-#   make site                                   the documentation as a site, in dist/site; `make site-serve` shows it on 127.0.0.1
+#   make                  builds the program and the library; needs the Rattle kit, and proves all crates first (some 20 minutes)
+#   make check            the quick suite: what can be tested here in two minutes, also without the kit
+#   make test             every suite over what is built; the proofs themselves are checked by `rt ci` (.ci/run runs both)
+#   make generated        writes everything that a script generates from the sources
+#   make install PREFIX=/usr/local DESTDIR=     installs program, tools, man pages, completions and library
+#   make uninstall PREFIX=.. DESTDIR=..         removes them
+#   make dist             makes the packages, in dist/ (docs/install.md)
+#   make site             makes the documentation as a site, in dist/site; `make site-serve` shows it on 127.0.0.1
 #
-# Nothing here asks for the kit where the program and the library are built.
+# install and dist take what is built, and need no kit.
 
 PREFIX ?= /usr/local
 BINDIR ?= $(PREFIX)/bin
 DATADIR ?= $(PREFIX)/share
 MANDIR ?= $(DATADIR)/man
 PROGRAM ?= crates/linksim/out/linksim
+ARCHIVE = crates/nr_c/out/libnr_c.a
 DIST ?= dist
 export PROGRAM
 
 # A command that fails ends its line, also inside a loop, so that an installation stops at the first failed copy.
 .SHELLFLAGS = -ec
 
-TOOLS = conform curve explain table vectors
-SHIPPED = $(shell find tools/linksim_tools -name '*.py' -o -name '*.txt') $(shell find examples -type f -not -path '*/out/*' -not -name '*.pyc')
+SUITES = program refused-growths c-library generated tools engines packages rtl
+TOOLS = certify conform curve explain table vectors verify
+SHIPPED = tools/paths.py $(shell find examples -type f -not -path '*/out/*' -not -name '*.pyc')
 MADE = $(foreach name,linksim $(TOOLS:%=linksim-%),bash-completion/completions/$(name) zsh/site-functions/_$(name) \
     fish/vendor_completions.d/$(name).fish)
-PAGES = README.md CHANGELOG.md CONTRIBUTING.md $(shell find docs -name '*.md' -o -name '*.svg') $(wildcard crates/*/README.md)
+PAGES = README.md CHANGELOG.md CONTRIBUTING.md SECURITY.md $(shell find docs -name '*.md' -o -name '*.svg') $(wildcard crates/*/README.md)
 
 TO_BIN = $(DESTDIR)$(BINDIR)
 TO_DATA = $(DESTDIR)$(DATADIR)
@@ -31,9 +37,22 @@ OURS = $(TO_DATA)/linksim
 # The tools as they are seen from the folder of the program.
 FROM_BIN = $$(realpath -ms --relative-to='$(BINDIR)' '$(DATADIR)/linksim/tools')
 
-all: library
+all:
+	@if ! [ -f $(PROGRAM) ] || ! [ -f $(ARCHIVE) ]; then \
+	    command -v rt > /dev/null || { echo "make: program and library are built by rt of the Rattle kit, which is not in PATH;" \
+	        "docs/install.md has packages that need no kit" >&2; exit 1; }; \
+	    tools/first-build; \
+	fi
+	$(MAKE) -C c all
 
-library:
+# Nothing below proves a crate by surprise: what is missing is named.
+built:
+	@for one in $(PROGRAM) $(ARCHIVE); do \
+	    [ -f "$$one" ] || { echo "make: $$one is not built: run make first, which needs the Rattle kit" >&2; exit 1; }; \
+	done
+
+# The help of some tools, of which man pages are made, needs the library too.
+library: built
 	$(MAKE) -C c all
 
 install: install-program
@@ -42,10 +61,7 @@ install: install-program
 uninstall: uninstall-program
 	$(MAKE) -C c uninstall
 
-$(PROGRAM):
-	cd crates/linksim && rt run -- --version
-
-install-program: $(PROGRAM)
+install-program: library
 	install -d "$(TO_BIN)" "$(OURS)/tools"
 	install -m 755 $(PROGRAM) "$(TO_BIN)/linksim"
 	install -m 755 $(TOOLS:%=tools/%) "$(OURS)/tools"
@@ -63,7 +79,7 @@ uninstall-program:
 	rm -rf "$(TO_DATA)/doc/linksim"
 	rm -rf "$(OURS)"
 
-dist: $(PROGRAM) library
+dist: library
 	packaging/dist --out "$(DIST)"
 
 site:
@@ -72,7 +88,16 @@ site:
 site-serve:
 	packaging/site --serve
 
-test:
-	tests/packages
+check:
+	tests/quick
 
-.PHONY: all library install uninstall install-program uninstall-program dist site site-serve test
+test: built
+	@status=0; for one in $(SUITES); do tests/$$one || status=1; done; exit $$status
+
+generated:
+	tests/generated --write
+	gate/believed-words --closure --write
+	gate/prices --write
+	docs/pictures/draw-pipeline
+
+.PHONY: all built library install uninstall install-program uninstall-program dist site site-serve check test generated

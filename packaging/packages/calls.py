@@ -15,9 +15,9 @@ RUST = re.compile(r"((?:^ *///[^\n]*\n)+)(?: *#\[[^\n]*\n)*( *pub (?:const )?(?:
 
 
 def paragraphs(comment: str) -> str:
-    """A comment's text as Markdown: its faults and each list in a paragraph of their own."""
+    """A comment's text as Markdown: its errors and each list in a paragraph of their own."""
     lines = [line.strip() for line in comment.splitlines()]
-    heads = [line.startswith("Faults:") or line.startswith("- ") and not line_before.startswith("- ")
+    heads = [line.startswith("Errors:") or line.startswith("- ") and not line_before.startswith("- ")
              for line_before, line in zip(["", *lines], lines)]
     return "\n".join(f"\n{line}" if head else line for line, head in zip(lines, heads))
 
@@ -48,11 +48,12 @@ def of_python(folder: pathlib.Path) -> str:
     """The page of the module nr: each call that its head lists, with its own text."""
     module = ast.parse((folder / "__init__.py").read_text())
     lists = {it.targets[0].id: it.value for it in module.body if isinstance(it, ast.Assign) and isinstance(it.targets[0], ast.Name)}
-    results = [it.id for it in ast.walk(lists["RESULTS"]) if isinstance(it, ast.Name)]
+    results = ["Bler", *(it.id for it in ast.walk(lists["RESULTS"]) if isinstance(it, ast.Name))]
     names = [*ast.literal_eval(lists["__all__"]), *results]
     head, _, rest = (ast.get_docstring(module) or "").partition("\n\n")
     parts = ["# Calls of the Python module nr", head, rest]
-    sources = [path.read_text() for path in sorted(folder.glob("*.py"))]
+    paths = [*sorted(folder.glob("*.py")), folder.parents[1] / "tools" / "linksim_tools" / "curve" / "bler.py"]
+    sources = [path.read_text() for path in paths]
     nodes = {node.name: (node, source) for source in sources for node in public(ast.parse(source).body)}
     for name in sorted(set(names) & set(nodes), key=lambda it: (it.lower(), it)):
         node, source = nodes[name]

@@ -12,7 +12,7 @@ import subprocess
 import typing
 
 ROOT = pathlib.Path(__file__).resolve().parents[2]
-TOOLS = ("conform", "curve", "explain", "table", "vectors")
+TOOLS = ("certify", "conform", "curve", "explain", "table", "vectors", "verify")
 TITLE = re.compile(r"(\S.*):")
 ITEM = re.compile(r"( {2,8})(\S.*?)(?: {2,}(\S.*))?")
 
@@ -51,7 +51,7 @@ class Help:
     @property
     def options(self) -> dict[str, str]:
         """The options, and what each takes after a space, if it takes something."""
-        found = [re.search(r"(--[a-z][a-z0-9-]*)(?: (\S+))?$", it.term) for it in self.items]
+        found = [re.search(r"(--[a-z][a-z0-9-]*)(?: (\S+))?(?: \S+)*$", it.term) for it in self.items]
         return {it[1]: it[2] or "" for it in found if it}
 
     def of(self, option: str) -> str:

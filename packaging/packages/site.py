@@ -9,11 +9,12 @@ import shutil
 import subprocess
 import typing
 
+import nr_version
 from packages import calls, manual as formats, pages as manuals, staging
 
 ROOT = staging.ROOT
 THEME = pathlib.Path(__file__).resolve().parent / "theme"
-TOPS = ["README.md", "CONTRIBUTING.md", "CHANGELOG.md"]
+TOPS = ["README.md", "CONTRIBUTING.md", "SECURITY.md", "CHANGELOG.md"]
 NEEDED = {"mkdocs": "mkdocs", "man": "man-db", "col": "bsdextrautils"}
 ITEM = re.compile(r"\[([^\]]+)\]\(([^)#]+\.md)\)")
 # What weighs less in a search than a page that users read; crates come last of all.
@@ -68,8 +69,8 @@ def stage(pages: pathlib.Path) -> Nav:
     names = [("nr.h", "calls/c.md"), ("Python", "calls/python.md"), ("Rust", "calls/rust.md")]
     menu.append({"Calls": [{title: path} for title, path in names]})
     (pages / "man").mkdir()
-    manuals.write(pages / "man", manuals.PROGRAM, staging.VERSION)
-    of_formats = formats.page((ROOT / "docs" / "formats.md").read_text(), staging.VERSION)
+    manuals.write(pages / "man", manuals.PROGRAM, nr_version.declared())
+    of_formats = formats.page((ROOT / "docs" / "formats.md").read_text(), nr_version.declared())
     (pages / "man" / "linksim-formats.5").write_text(of_formats)
     sources = sorted((pages / "man").iterdir())
     for source in sources:
@@ -83,7 +84,7 @@ def stage(pages: pathlib.Path) -> Nav:
 def settings(pages: pathlib.Path, out: pathlib.Path, menu: Nav) -> dict[str, typing.Any]:
     """What mkdocs reads. Nothing is fetched: no font, no script from elsewhere."""
     return {
-        "site_name": f"linksim {staging.VERSION}",
+        "site_name": f"linksim {nr_version.declared()}",
         "site_description": "The data coding chain of 5G NR's shared channels, proved",
         "docs_dir": str(pages),
         "site_dir": str(out),

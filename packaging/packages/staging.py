@@ -12,12 +12,12 @@ import subprocess
 import time
 
 import nr_build
+import nr_version
 
 ROOT = pathlib.Path(__file__).resolve().parent.parent.parent
 LICENCE = nr_build.LICENCE
 SUMS = "SHA256SUMS"
 STRIPPED = ["--remove-section=.comment", "--remove-section=.note", "--strip-unneeded"]
-VERSION = (ROOT / "VERSION").read_text().strip()
 
 
 class Failed(Exception):
@@ -31,9 +31,12 @@ def epoch() -> int:
     if named:
         return int(named)
     headings = re.findall(r"(?m)^## (\S+) \((\d{4}-\d\d-\d\d|not released yet)\)$", (ROOT / "CHANGELOG.md").read_text())
-    if VERSION not in [version for version, _ in headings]:
-        raise Failed(f"CHANGELOG.md has no heading '## {VERSION} (DATE)' or '## {VERSION} (not released yet)'")
-    dates = [date for version, date in headings if version == VERSION or date[0].isdigit()]
+    number = nr_version.declared().partition("-")[0]
+    wanted = next((date for version, date in headings if version == number), "")
+    if nr_version.is_released() is not wanted[:1].isdigit():
+        state = "DATE" if nr_version.is_released() else "not released yet"
+        raise Failed(f"CHANGELOG.md has no heading '## {number} ({state})', as VERSION says {nr_version.declared()}")
+    dates = [date for version, date in headings if version == number or date[0].isdigit()]
     return calendar.timegm(time.strptime(next(date for date in dates if date[0].isdigit()), "%Y-%m-%d"))
 
 
@@ -45,7 +48,7 @@ def install(folder: pathlib.Path, **places: str) -> None:
     ended = subprocess.run(words, stdin=subprocess.DEVNULL, stdout=subprocess.PIPE, stderr=subprocess.STDOUT, text=True)
     if ended.returncode:
         raise Failed("make install: " + (ended.stdout.strip().splitlines() or ["it failed"])[-1])
-    strip = {"bin/linksim": STRIPPED, "libnr.so.2": STRIPPED, "libnr.a": ["--strip-debug", "-D"]}
+    strip = {"bin/linksim": STRIPPED, "libnr.so.3": STRIPPED, "libnr.a": ["--strip-debug", "-D"]}
     for name, options in strip.items() if shutil.which("strip") else ():
         for path in folder.glob(f"**/{name}"):
             subprocess.run(["strip", *options, str(path)], check=True)

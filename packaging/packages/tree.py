@@ -8,10 +8,11 @@ import shutil
 import tarfile
 import typing
 
+import nr_version
 from packages import staging
 
-NAME = f"linksim-{staging.VERSION}-x86_64-linux"
-ABOUT = ["README.md", "CHANGELOG.md", "CONTRIBUTING.md", "VERSION"]
+NAME = f"linksim-{nr_version.for_archive()}-x86_64-linux"
+ABOUT = ["README.md", "CHANGELOG.md", "CONTRIBUTING.md", "SECURITY.md", "VERSION"]
 # The folders of the repository's top that documents name, as they are here.
 LINKS = {
     "tools": "share/linksim/tools",
