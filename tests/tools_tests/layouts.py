@@ -67,6 +67,33 @@ def tabs(cells: list[str]) -> str:
     return "\t".join(cells)
 
 
+def matrices(graph: int, entries: dict[tuple[int, int], list[int]]) -> list[list[list[int]]]:
+    """The eight matrices of a base graph, with -1 where a row has no entry."""
+    rows, columns = {1: (46, 68), 2: (42, 52)}[graph]
+    return [
+        [[entries[row, column][index] if (row, column) in entries else -1 for column in range(columns)] for row in range(rows)]
+        for index in range(8)
+    ]
+
+
+def in_c(graph: int, rows: list[list[int]]) -> str:
+    """A matrix as a program in C has it, with a row over several lines in base graph 2."""
+    listed = [", ".join(map(str, row)).replace(", -1, -1", ", -1,\n    -1" if graph == 2 else ", -1, -1") for row in rows]
+    return f"const int16_t BG{graph}[{len(rows)}][{len(rows[0])}] = {{ // 7 8\n" + "".join(f"  {{{it}}},\n" for it in listed) + "};"
+
+
+# How a matrix is written, from its base graph and its rows.
+MATRICES: dict[str, typing.Callable[[int, list[list[int]]], str]] = {
+    "MATLAB": lambda graph, rows: f"BG{graph}S1 = [" + ";\n".join(" ".join(map(str, row)) for row in rows) + "];",
+    "one line": lambda graph, rows: f"BG{graph} = [" + "; ".join(" ".join(map(str, row)) for row in rows) + "]",
+    "C": in_c,
+    "names": lambda graph, rows: in_c(graph, rows).replace("-1", "NO_EDGE"),
+    "flat": lambda graph, rows: "{" + ",\n".join(", ".join(map(str, row)) for row in rows) + "}",
+    "commas": lambda graph, rows: "\n".join(",".join(map(str, row)) for row in rows),
+    "AFF3CT": lambda graph, rows: f"{len(rows[0])} {len(rows)} 384\n\n" + "\n".join("\t".join(map(str, row)) for row in rows),
+}
+
+
 def text(
     graph: int,
     pages: list[list[list[str]]],

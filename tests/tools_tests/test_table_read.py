@@ -180,6 +180,29 @@ class Reading(shared.InFolder):
         ]
         self.tool_reads("--graph", "1", *files, graphs=[1])
 
+    def test_one_of_two_tables(self) -> None:
+        path = self.file("text.txt", layouts.text(1, [layouts.halves(self.entries[1])]))
+        status, output, error = shared.tool("table", "read", path)
+        self.assertEqual((status, output), (3, shared.table_text({1: self.entries[1]})))
+        self.assertIn("graph 2: Table 5.3.2-3 is not in the text\n", error)
+
+    def test_two_texts_without_headings(self) -> None:
+        files = [
+            self.file(f"{it}.txt", "\n".join(map(layouts.single_spaces, layouts.halves(self.entries[it])))) for it in (2, 1)
+        ]
+        self.tool_reads("--graph", "2,1", *files)
+        self.assertIn("names 2 graphs", shared.refused("table", "read", "--graph", "2,1", files[0], status=2))
+
+    def test_matrices(self) -> None:
+        """Eight for each base graph, as MATLAB, AFF3CT and programs in C write them, in one text or in one for each."""
+        eight = {graph: layouts.matrices(graph, it) for graph, it in self.entries.items()}
+        for name, written in layouts.MATRICES.items():
+            with self.subTest(name):
+                both = {graph: [written(graph, rows) for rows in it] for graph, it in eight.items()}
+                self.reads("\n".join(both[1] + both[2]))
+        files = [self.file(f"{graph}-{index}.qc", text) for graph in (1, 2) for index, text in enumerate(both[graph])]
+        self.tool_reads(*files)
+
     def test_the_program_accepts_what_was_read(self) -> None:
         text = self.both(lambda it, rows: layouts.text(it, [layouts.side_by_side(layouts.halves(rows, "middle"))]))
         self.tool_reads("-", stdin=text.encode())
@@ -220,6 +243,26 @@ class Refusals(shared.InFolder):
                     places = [place for place, (it, _) in enumerate(entries) if it == row]
                     lines[places[len(places) // 2]][cell] = damage
                     self.refused(layouts.text(1, [self.LAYOUTS[name](lines)]), row)
+
+    def test_first_entry(self) -> None:
+        """A damage before anything was read is told at its own line."""
+        for damage in ("2l1", "\u22121", "1 x"):
+            lines = [layouts.single_spaces(cells) for cells in layouts.halves(shared.drawn_entries(1))]
+            lines[0] = lines[0].replace(lines[0].split()[4], damage)
+            with self.subTest(damage):
+                text = "\n".join([layouts.CAPTIONS[1], *layouts.HEADS, *lines])
+                self.assertRegex(self.fails(text), "^text, line 5: graph 1, row 0 ")
+
+    def test_damaged_matrices(self) -> None:
+        """A number lost or added, a value too large, an entry that the other sets have not: the line is named."""
+        eight = layouts.matrices(1, shared.drawn_entries(1))
+        lines = "\n".join(layouts.MATRICES["C"](1, rows) for rows in eight).splitlines()
+        for said, old, new in (("a row of 67 numbers", "-1, ", ""), ("a row of 69 numbers", "-1, ", "-1, -1, "),
+                               ("70000 is neither", "-1, ", "70000, "), ("has an entry, unlike", "-1, ", "1, ")):
+            with self.subTest(said):
+                text = "\n".join([*lines[:60], lines[60].replace(old, new, 1), *lines[61:]])
+                self.assertRegex(self.fails(text), f"^text, line 61: .*{said}")
+        self.assertRegex(self.fails("\n".join(lines[: 7 * len(lines) // 8])), "graph 1 has 322 rows of 68 .* have 368$")
 
     def test_row_left_out(self) -> None:
         for row in (4, 17, 30, 44):
@@ -330,4 +373,4 @@ class Joined(shared.InFolder):
         lines[300] += " 7"
         joined = [" ".join(lines[at : at + 2]) for at in range(0, 200, 2)] + lines[200:]
         with self.assertRaisesRegex(Failed, "^text, line 201: graph 1, row 4[0-9] could not be read: "):
-            reading.read(texts.lines_of("text", "\n".join(joined).encode()), 1)
+            reading.read(texts.lines_of("text", "\n".join(joined).encode()), [1])

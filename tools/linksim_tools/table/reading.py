@@ -7,7 +7,8 @@ import typing
 
 from linksim_tools.common.graphs import GRAPHS, LARGEST
 from linksim_tools.common.message import shown
-from linksim_tools.common.program import Failed
+from linksim_tools.common.program import Failed, Wrong
+from linksim_tools.table import matrices
 from linksim_tools.table.rows import ENTRY, Reading, halve
 
 if typing.TYPE_CHECKING:
@@ -20,6 +21,9 @@ ANOTHER = re.compile(r"\W*table\s*\d+\.\d|\s*5\.3\.3(\.|\s|$)", re.IGNORECASE)
 
 # How many numbers a record of a shift table file has.
 FIELDS = 11
+
+# A line before a table's first entry that has more words than so many is a head, and else an entry that is damaged.
+DAMAGED = 2
 
 # A text is in two halves if more than one of so many of its lines has two entries.
 TWO_HALVES = 10
@@ -38,7 +42,7 @@ class Part:
     def add(self, line: Line) -> None:
         """Adds a line of the text."""
         self.page = self.page or line.page
-        if line.is_head or (line.words and not self.lines):
+        if line.is_head or (line.words > DAMAGED and not self.lines):
             self.head = True
             return
         if self.page:
@@ -71,11 +75,18 @@ class Part:
                 yield True, placed, alone, pages
 
 
-def parts_of(lines: list[Line], graph: int | None) -> dict[int, Part]:
-    """The lines of each graph's table. If `graph` is a number, the text begins with that one's."""
+def parts_of(lines: list[Line], graphs: typing.Sequence[int]) -> dict[int, Part]:
+    """The lines of each graph's table. The text begins with that of the first of `graphs`; if they are several, so does each file
+    with that of its own."""
+    files = list(dict.fromkeys(line.file for line in lines))
+    if len(graphs) > 1 and len(files) != len(graphs):
+        raise Wrong(f"--graph names {len(graphs)} graphs, one for each text, and there are {len(files)} texts")
+    starts = dict(zip(files, graphs))
     parts: dict[int, Part] = {}
-    part = parts.setdefault(graph, Part()) if graph else None
+    part: Part | None = None
     for line in lines:
+        if line.file in starts:
+            part = parts.setdefault(starts.pop(line.file), Part())
         caption = CAPTION.match(line.text)
         if caption:
             part = parts.setdefault(int(caption[1]) - 1, Part())
@@ -165,12 +176,14 @@ def judge(graph: Graph, entries: list[tuple[int, ...]], named: str) -> None:
         raise Failed(f"{named} has {len(entries)} entries, and {graph.table} has {graph.entries}; by row it has {counts}")
 
 
-def read(lines: list[Line], graph: int | None = None) -> dict[int, list[tuple[int, ...]]]:
+def read(lines: list[Line], graphs: typing.Sequence[int] = ()) -> dict[int, list[tuple[int, ...]]]:
     """The entries of each graph's table that the lines of a text have, judged. Each is a row, a column and eight values."""
-    if is_file(lines):
+    if matrices.is_matrices(lines):
+        tables = matrices.read_matrices(lines)
+    elif is_file(lines):
         tables = read_file(lines)
     else:
-        tables = {number: read_part(GRAPHS[number], part) for number, part in parts_of(lines, graph).items()}
+        tables = {number: read_part(GRAPHS[number], part) for number, part in parts_of(lines, graphs).items()}
     for number, entries in tables.items():
         judge(GRAPHS[number], entries, files_of(lines))
     return tables

@@ -9,6 +9,7 @@ import typing
 from linksim_tools.common import files
 from linksim_tools.common.command_line import Commands, add_out, add_table, numbers, table_of, write
 from linksim_tools.common.graphs import GRAPHS
+from linksim_tools.common.message import shown
 from linksim_tools.common.program import Failed
 from linksim_tools.conform import code
 from linksim_tools.conform.files import entries_of, json_line
@@ -26,8 +27,9 @@ examples:
 
 READ = """
 Each TEXT (-: standard input) is text, a .docx document or a PDF with Table 5.3.2-2,
-Table 5.3.2-3 or both, or a shift table file with other separators. What is written is the
-shift table file that linksim reads. docs/tables.md says what is judged.
+Table 5.3.2-3 or both, matrices of either, or a shift table file with other separators. What
+is written is the shift table file that linksim reads. If one table alone is there, and no
+--graph said so, the status is 3. docs/tables.md says what is judged.
 
 example:
   tools/table read 38212-f20.docx --out table.csv
@@ -51,6 +53,18 @@ example:
 """
 
 
+# What `read` ends with if it wrote one base graph, and the text was to have both.
+PARTIAL = 3
+
+
+def graphs_of(text: str) -> list[int]:
+    """Base graphs with commas between."""
+    found = numbers(text)
+    if not set(found) <= GRAPHS.keys():
+        raise argparse.ArgumentTypeError(f"{shown(text)} is not 1, 2 or a list of these")
+    return found
+
+
 def lines_of(tables: typing.Mapping[int, typing.Iterable[typing.Iterable[int]]]) -> typing.Iterator[str]:
     """The lines of a shift table file."""
     for number, entries in tables.items():
@@ -58,8 +72,9 @@ def lines_of(tables: typing.Mapping[int, typing.Iterable[typing.Iterable[int]]])
             yield ",".join(map(str, (number, *entry)))
 
 
-def read(given: argparse.Namespace) -> None:
-    """Writes the shift table file of the texts."""
+def read(given: argparse.Namespace) -> int:
+    """Writes the shift table file of the texts. The status is PARTIAL if one of the tables is neither in them nor left out by
+    --graph."""
     lines = [line for name in given.texts for line in texts.lines_of(name, files.octets_of(name, files.DOCUMENT))]
     tables = reading.read(lines, given.graph)
     if not tables:
@@ -70,6 +85,7 @@ def read(given: argparse.Namespace) -> None:
         print(f"graph {number}: {GRAPHS[number].rows} rows, {len(entries)} entries", file=sys.stderr)
     for number in GRAPHS.keys() - tables.keys():
         print(f"graph {number}: {GRAPHS[number].table} is not in the text", file=sys.stderr)
+    return 0 if given.graph or len(tables) == len(GRAPHS) else PARTIAL
 
 
 def named(given: argparse.Namespace) -> str:
@@ -98,11 +114,12 @@ def write_rom(given: argparse.Namespace) -> None:
     write(rom.lines(given.form, tables, given.z), given.out)
 
 
-def main() -> None:
+def main() -> int | None:
     commands = Commands("table", ABOUT, EXAMPLES)
     one = commands.add("read", read, "makes a shift table file of the text of TS 38.212", READ)
     one.add_argument("texts", nargs="+", metavar="TEXT", help="a text that has one table or both, or a part of one")
-    one.add_argument("--graph", type=int, choices=GRAPHS, help="the base graph with whose table the text begins")
+    graphs = "the base graph with whose table the text begins, or as 1,2 that of each text"
+    one.add_argument("--graph", type=graphs_of, default=[], metavar="LIST", help=graphs)
     two = commands.add("fingerprint", write_fingerprint, "writes sixteen lines that tell tables apart", FINGERPRINT)
     add_table(two)
     three = commands.add("rom", write_rom, "writes a shift table as the words of a ROM", ROM)
@@ -112,4 +129,5 @@ def main() -> None:
     for command in (one, two, three):
         add_out(command)
     given = commands.parser.parse_args()
-    given.does(given)
+    status: int | None = given.does(given)
+    return status
