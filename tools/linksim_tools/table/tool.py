@@ -17,10 +17,11 @@ from linksim_tools.rtl import rom
 from linksim_tools.table import reading
 from linksim_tools.table import text as texts
 
-ABOUT = "The published shift tables: reading them, telling two apart, and ROMs of them."
+ABOUT = "The published shift tables: reading them, comparing them with others and with vectors, and ROMs of them."
 EXAMPLES = """
 examples:
   tools/table read 38212-f20.docx --out table.csv
+  tools/table confirm table.csv ldpc_enc_*.data
   tools/table fingerprint --table table.csv
   tools/table rom --table table.csv --out rom.mem
 """
@@ -41,6 +42,16 @@ Whoever has the same lines has the same table. docs/tables.md says how they are 
 
 example:
   tools/table fingerprint --table examples/practice.csv
+"""
+
+CONFIRM = """
+Each FILE is an encoder's vector of DPDK's test-bbdev, or has lines such as 'graph 2 z 4 c BITS d BITS',
+with bits or hexadecimal digits. Reports how many values of the table the vectors confirm, by base
+graph, set index and modulus, and the row and column of those that they contradict. Then the exit
+status is 1. docs/tables.md describes the method.
+
+example:
+  tools/table confirm table.csv ldpc_enc_*.data
 """
 
 ROM = """
@@ -103,6 +114,16 @@ def write_fingerprint(given: argparse.Namespace) -> None:
     write(fingerprint.fingerprint(named(given)), given.out)
 
 
+def confirm(given: argparse.Namespace) -> int:
+    """Writes which values of a table vectors confirm. The status is 1 if they contradict any."""
+    from linksim_tools.table import words
+    from linksim_tools.table.confirm import Confirmed
+
+    found = Confirmed(entries_of(given.table), (word for name in given.files for word in words.words_of(name)))
+    write(found.report(), given.out)
+    return 1 if found.wrong else 0
+
+
 def write_rom(given: argparse.Namespace) -> None:
     """Writes a shift table as a ROM. A suite has the table in its head, and needs no library."""
     path = named(given)
@@ -122,11 +143,14 @@ def main() -> int | None:
     one.add_argument("--graph", type=graphs_of, default=[], metavar="LIST", help=graphs)
     two = commands.add("fingerprint", write_fingerprint, "writes sixteen lines that tell tables apart", FINGERPRINT)
     add_table(two)
+    four = commands.add("confirm", confirm, "compares a shift table with published vectors", CONFIRM)
+    four.add_argument("table", metavar="TABLE", help="the shift table")
+    four.add_argument("files", nargs="+", metavar="FILE", help="a file of vectors")
     three = commands.add("rom", write_rom, "writes a shift table as the words of a ROM", ROM)
     three.add_argument("--form", choices=rom.FORMS, default="mem", help="as $readmemh, AMD or Intel reads it (mem)")
     three.add_argument("--z", type=numbers, default=[], metavar="LIST", help="reduced by these lifting sizes, as 384,208")
     add_table(three, "the shift table, or a suite of tools/conform, which has one")
-    for command in (one, two, three):
+    for command in (one, two, three, four):
         add_out(command)
     given = commands.parser.parse_args()
     status: int | None = given.does(given)
