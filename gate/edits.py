@@ -5,8 +5,8 @@ In both, `file:` names the file of what follows, and each `old:` is to be replac
 `# refused by: FUNCTION, clause NAME` says what refuses the edit. In more-edits.txt it has the edit's name before it and begins
 the edit: `# NAME refused by: ..`.
 
-gate/tried-edits.txt keeps what the prover said of those beside the gate when they were last tried: for each crate and verdict the
-edits, each with a digest of it and of the functions that it changes.
+gate/tried-edits.txt keeps what the prover said of those beside the gate when they were last tried: for each crate, digest of its
+sources and of those below it, and verdict the edits, each with a digest of it and of the functions that it changes.
 """
 
 from __future__ import annotations
@@ -16,10 +16,14 @@ import hashlib
 import pathlib
 import re
 import shutil
+import sys
 import textwrap
 import typing
 
-ROOT = pathlib.Path(__file__).resolve().parent.parent
+sys.path.append(str(pathlib.Path(__file__).resolve().parent.parent / "tests"))
+
+from crate_list import ROOT, crates_and_below  # noqa: E402  (it stands in tests/)
+
 TRIED = ROOT / "gate" / "tried-edits.txt"
 HEAD = re.compile(r"^( *)(?:pub(?:\(crate\))? )?(?:const |unsafe )*fn \w+", re.MULTILINE)
 REFUSED_BY = re.compile(r"# (?:(\S+) )?refused by: (\S.*)")
@@ -118,22 +122,41 @@ def beside_gate() -> list[Edit]:
     return [edit for path in sorted((ROOT / "crates").glob("*/more-edits.txt")) for edit in read(path, path.parent)]
 
 
-def verdicts() -> dict[tuple[str, str], tuple[str, str]]:
-    """The digest and the verdict of each edit beside the gate that was tried, by its crate and name."""
-    found = {}
-    for crate, verdict, those in re.findall(r"^(\w+) (\w+): (.*)$", TRIED.read_text() if TRIED.exists() else "", re.MULTILINE):
-        for name, digest in (it.split("=") for it in those.split()):
-            found[crate, name] = (digest, verdict)
+def states() -> dict[str, str]:
+    """A digest of each crate's code, definitions and proofs, and of those that it stands on."""
+    found: dict[str, str] = {}
+    for crate, below in crates_and_below().items():
+        files = [it for part in ("src", "specs", "proofs") for it in sorted(ROOT.glob(f"crates/{crate}/{part}/**/*.*"))]
+        parts = [*(found[it].encode() for it in sorted(below)), *(it.read_bytes() for it in files)]
+        found[crate] = hashlib.sha256(b"\0".join(parts)).hexdigest()[:8]
     return found
 
 
-def write_verdicts(found: dict[tuple[str, str], tuple[str, str]]) -> None:
+class Verdict(typing.NamedTuple):
+    """What the prover said of an edit, and of what: the digest of the edit, and the state of its crate."""
+
+    digest: str
+    state: str
+    said: str
+
+
+def verdicts() -> dict[tuple[str, str], Verdict]:
+    """The verdict on each edit beside the gate that was tried, by its crate and name."""
+    found = {}
+    text = TRIED.read_text() if TRIED.exists() else ""
+    for crate, state, said, those in re.findall(r"^(\w+) (\w+) (\w+): (.*)$", text, re.MULTILINE):
+        for name, digest in (it.split("=") for it in those.split()):
+            found[crate, name] = Verdict(digest, state, said)
+    return found
+
+
+def write_verdicts(found: dict[tuple[str, str], Verdict]) -> None:
     """Writes what was said of the edits that are still beside the gate."""
     groups: dict[str, list[str]] = {}
     for edit in beside_gate():
-        digest, verdict = found.get((edit.crate.name, edit.name), ("", ""))
-        if digest:
-            groups.setdefault(f"{edit.crate.name} {verdict}: ", []).append(f"{edit.name}={digest}")
+        of = found.get((edit.crate.name, edit.name))
+        if of:
+            groups.setdefault(f"{edit.crate.name} {of.state} {of.said}: ", []).append(f"{edit.name}={of.digest}")
     lines = [line for head, those in groups.items() for line in wrapped(head, those)]
     TRIED.write_text("".join(f"{line}\n" for line in lines))
 
