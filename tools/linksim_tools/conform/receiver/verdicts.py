@@ -155,7 +155,7 @@ class Kinds(Verdict):
     def of(cls, seen: Seen) -> Verdict | None:
         if not seen.kinds and not (seen.start and seen.proof):
             return None
-        return cls(f"{NONE}, but:", notes=seen.lines, kinds=seen.kinds, cut_short=seen.cut_short)
+        return cls(f"{NONE}, but:", notes=seen.lines, kinds=seen.kinds)
 
 
 class Proved(Verdict):
@@ -191,7 +191,7 @@ class Few(Verdict):
         names: list[tuple[str, ...]] = [(it,) for it in seen.losing]
         lose = [f"{' and '.join(it for it, in names[:NAMED])} would lose the same blocks:"] if names else []
         return cls(f"it delivers next to nothing: {seen.delivered} of {seen.due} blocks that are due", names,
-                   notes=[*seen.lines, *lose], cut_short=seen.cut_short,
+                   notes=[*seen.lines, *lose],
                    next="look at one small case: the sign of its values (--positive), the shift table that it reads, its CRC")
 
 
@@ -207,7 +207,7 @@ class Loses(Verdict):
         but = f" but {seen.against[0]}" if seen.against else ""
         notes = ["nothing else that was answered shows this mistake for sure", *seen.lines, *seen.clash_note]
         return cls(f"it loses the same blocks as a receiver with {seen.losing[0]} does, in all cases{but}",
-                   [(it,) for it in seen.losing], seen.against, notes, apart=seen.apart(seen.losing), cut_short=seen.cut_short)
+                   [(it,) for it in seen.losing], seen.against, notes, apart=seen.apart(seen.losing))
 
 
 class Described(Verdict):
@@ -217,7 +217,7 @@ class Described(Verdict):
 
     @classmethod
     def of(cls, seen: Seen) -> Verdict | None:
-        return cls(f"{NONE}, but:", notes=seen.lines, cut_short=seen.cut_short, next=seen.next) if seen.lines else None
+        return cls(f"{NONE}, but:", notes=seen.lines, next=seen.next) if seen.lines else None
 
 
 class Pairs(Verdict):
@@ -226,7 +226,7 @@ class Pairs(Verdict):
     @classmethod
     def of(cls, seen: Seen) -> Verdict | None:
         said = "no listed mistake alone gives these answers; two together give them, as one that is not listed may:"
-        return cls(said, seen.pairs, cut_short=seen.cut_short) if seen.pairs else None
+        return cls(said, seen.pairs) if seen.pairs else None
 
 
 class Nearest(Verdict):
@@ -242,7 +242,7 @@ class Nearest(Verdict):
             level, case = seen.of.contradiction(seen.near[0]) or ("", "")
             return cls(f"{NONE}; {shared.what_gives(names)} the same blocks, but not `{level}` of {case}", names, next=seen.next)
         return cls(f"{NONE}; the nearest gives all but {count}: {shared.listed(seen.against)}", names,
-                   seen.against, cut_short=seen.cut_short, next=seen.next)
+                   seen.against, next=seen.next)
 
 
 class Unexplained(Verdict):
@@ -251,7 +251,7 @@ class Unexplained(Verdict):
     @classmethod
     def of(cls, seen: Seen) -> Verdict | None:
         said = f"{NONE}, and no pair of them, gives these answers"
-        return cls(said, notes=seen.common, cut_short=seen.cut_short, next=seen.next)
+        return cls(said, notes=seen.common, next=seen.next)
 
 
 RANKED: list[type[Verdict]] = sorted(
@@ -259,5 +259,6 @@ RANKED: list[type[Verdict]] = sorted(
 
 
 def verdict(seen: Seen) -> Verdict:
-    """The first verdict that holds."""
-    return next(found for found in (kind.of(seen) for kind in RANKED) if found)
+    """The first verdict that holds, and whether what was searched before it was cut short."""
+    found = next(found for found in (kind.of(seen) for kind in RANKED) if found)
+    return dataclasses.replace(found, cut_short=seen.cut_short)
