@@ -4,8 +4,9 @@
    matching, bit interleaving and concatenation. nr_receive is a receiver over erasures, with HARQ combining and peeling decoding.
    Each stage can be called by itself too. Numbers such as (5.4.2) are clauses of TS 38.212.
 
-   A program reads a shift table once, by nr_table_entries, and passes its entries to the other functions. A complete example is
-   c/examples/erasures.c, and docs/c-library.md says what is proved about each function.
+   A program reads a shift table, the numbers that define the code, once by nr_table_entries, and passes its entries to the other
+   functions. A complete example is c/examples/erasures.c. docs/overview.md explains the terms, and docs/c-library.md says what is
+   proved about each function.
 
    Arrays. Every array is passed as a pointer followed by its length. The pointer must be aligned and must point to at least that
    many elements; input arrays must be initialised. A pointer may be NULL only if its length is 0. Memory that a function may write
