@@ -149,8 +149,8 @@ impl<const W: usize, const D: usize> Lanes<W, D> {
         !self.seen.has_begun(usize::from(last.col))
     }
 
-    // The entry of a row block from which on the rows of a lane miss their position, each of them one. It is the last entry if
-    // nothing is known of its column, and else the first. Then how many entries were read.
+    // Finds the entry that holds the one unknown position of these check rows: the last entry if nothing is known of its column,
+    // otherwise the first such. Also returns how many entries were read, which the bound on operations counts.
     #[tactic(auto, using(crate::proofs::RowTallyFacts::row_fits))]
     fn first_missing(
         &self,
