@@ -1,4 +1,4 @@
-"""Answers that were worked by hand from TS 38.212, and those of the catalogues of checks."""
+"""Answers that were worked by hand from TS 38.212; worked_rows.txt has those that are a line each."""
 
 from __future__ import annotations
 
@@ -28,11 +28,6 @@ def octets_of(column: int | None) -> list[int]:
 class ByHand(unittest.TestCase):
     """One call a test."""
 
-    def test_crc(self) -> None:
-        """The text over which the catalogues give their values."""
-        for poly, check in enumerate([0xCDE703, 0x23EF52, 0x31C3]):
-            self.assertEqual(built.written(built.struct(), "nr_crc", poly, b"123456789").numbers(), [check])
-
     def test_lengths(self) -> None:
         """At the rate 0.25, 3832 bits have two code blocks and 7632 bits three. Of two the second has the longer length,
         of three the third; those that are scheduled share all (5.4.2.1)."""
@@ -59,13 +54,6 @@ class ByHand(unittest.TestCase):
             room = built.Room(3 if a == 7632 else 2, item=4)
             self.assertEqual(built.call("nr_lengths", 512, a, tx, room), status)
             self.assertTrue(room.is_unwritten())
-
-    def test_buffer(self) -> None:
-        """24 bits have 40 with their CRC, so that Zc is 7 and N 350. A limit of 200 bits keeps 300 (5.4.2.1)."""
-        cases = [(0, 1, [350, 91]), (0, 3, [350, 301]), (200, 2, [300, 147]), (1, 3, [1, 0])]
-        for lbrm, rv, wanted in cases:
-            found = built.written(built.struct(4), "nr_buffer", built.settings(2048, lbrm), 24, rv).numbers()
-            self.assertEqual(found, [*wanted, 0, 0], f"version {rv}, limit {lbrm}")
 
     def test_codeword(self) -> None:
         """The 24 bits are octet 01 and its CRC, 1021 in hexadecimal."""

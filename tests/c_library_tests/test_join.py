@@ -44,7 +44,8 @@ class Join(unittest.TestCase):
         self.assertEqual(joined(2048, 8, [one[:23] + [0]]), ([0], 0, b"\1"))
 
     def test_is_the_inverse_of_cutting(self) -> None:
-        for octets, rate2048 in self.SIZES:
+        """Also of the most code blocks of each base graph: 156, and 344 with 1,310,616 bits."""
+        for octets, rate2048 in [*self.SIZES, (479, 512), (954, 512), (163_836, 2048), (163_827, 512)]:
             block, numbers = random.Random(octets).randbytes(octets), coding.plan(8 * octets, rate2048)
             rows = [list(made(numbers["kdash"], "nr_cut", rate2048, block, r)) for r in range(numbers["c"])]
             with self.subTest(octets=octets, rate2048=rate2048):
@@ -76,15 +77,6 @@ class Join(unittest.TestCase):
         rows = coding.code_blocks(block, numbers)
         rows[-1][-1] ^= 1
         self.assertEqual(joined(1024, 8448, rows), ([1] * (numbers["c"] - 1) + [0], 1, block))
-
-    def test_largest(self) -> None:
-        """The longest block whose code blocks are equally long."""
-        rate2048 = 1920
-        a = next(a for a in range(1310720, 0, -8) if coding.plan(a, rate2048))
-        numbers = coding.plan(a, rate2048)
-        block = random.Random(4).randbytes(a // 8)
-        rows = coding.code_blocks(block, numbers)
-        self.assertEqual(joined(rate2048, a, rows), ([1] * numbers["c"], 1, block))
 
 
 class Rejected(unittest.TestCase):

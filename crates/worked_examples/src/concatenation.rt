@@ -1,8 +1,8 @@
-//! Code blocks put one after another, and whose bit is at a place (TS 38.212, 5.5).
+//! Code blocks put one after another (TS 38.212, 5.5).
 
 use crate::bit_lists::{bits_of, copied, has_octets};
 use nr_bitvec::Bits;
-use nr_cbconcat::{append, owner};
+use nr_cbconcat::append;
 use std::alloc::Global;
 use std::test::Fail;
 
@@ -36,15 +36,4 @@ fn one_and_then_01_is_101_and_10_and_then_1(rt: HostRuntime) -> Result<(), Fail>
         assert!(rt; bits.len() == 3 && has_octets(&bits, &[0b1010_0000])?);
     }
     Ok(())
-}
-
-#[test]
-fn place_12_of_12_and_16_bits_is_the_first_of_the_second(rt: HostRuntime) {
-    assert!(rt; owner(&[12, 16], 12) == (1, 0));
-}
-
-// `owner([0, 4], 0)`, and `owner([12, 0, 16], 12)`.
-#[test]
-fn a_code_block_of_no_bits_has_no_place(rt: HostRuntime) {
-    assert!(rt; owner(&[0, 4], 0) == (1, 0) && owner(&[12, 0, 16], 12) == (2, 0));
 }

@@ -20,10 +20,9 @@ fn crcs_of(alloc: Global, octets: &[u8], count: usize) -> Result<[u32; 3], Fail>
     ])
 }
 
-// The first row is that of the catalogues. The others are `crc` of lists of 0 to 9 bits, by long division.
+// By long division.
 #[test]
-fn the_digits_and_lists_of_0_to_9_bits_have_their_crcs(rt: HostRuntime) -> Result<(), Fail> {
-    assert!(rt; crcs_of(rt.alloc(), &DIGITS, 72)? == [0xcd_e703, 0x23_ef52, 0x31c3]);
+fn lists_of_0_to_9_bits_have_their_crcs(rt: HostRuntime) -> Result<(), Fail> {
     for (count, want) in [
         (0, [0, 0, 0]),
         (1, [0x86_4cfb, 0x80_0063, 0x1021]),

@@ -30,8 +30,6 @@ mod greatest_sizes;
 #[cfg(test)]
 mod hostile_ends;
 #[cfg(test)]
-mod interleaving;
-#[cfg(test)]
 mod kept_entries;
 #[cfg(test)]
 mod kept_receivers;
@@ -47,8 +45,6 @@ mod peeling;
 mod practice;
 #[cfg(test)]
 mod processes;
-#[cfg(test)]
-mod rate_matching;
 #[cfg(test)]
 mod receivers;
 #[cfg(test)]
