@@ -1,5 +1,5 @@
-"""What is made of c/nr.h and of the errors of its calls in faults.txt: the lists of errors in nr.h and in the Rust crate, the
-declarations of the Rust crate, and the structs and argument types of the Python module."""
+"""What is made of c/nr.h and of the errors of its calls in faults.txt: the lists of errors in nr.h, in the crate nr_c and in the Rust
+crate, the declarations of the Rust crate, and the structs and argument types of the Python module."""
 
 from __future__ import annotations
 
@@ -90,6 +90,22 @@ def for_crate(text: str) -> str:
     return re.sub(form, errors, text, flags=re.DOTALL)
 
 
+def for_exports(text: str) -> str:
+    """A file of the crate nr_c: the errors below `# Errors` of each call, with their statuses."""
+    status = {fault.name: fault.status for of in faults.SECTIONS.values() for fault in of if fault.status}
+
+    def errors(found: re.Match[str]) -> str:
+        listed = re.sub(r"\b[A-Z]{2,}\b", lambda it: faults.CALLS[it[0]], faults.CALLS[found["call"]])
+        listed = re.sub(r"\b[A-Z][a-z]\w*", lambda it: f"{status[it[0]]}~`{it[0]}`", listed)
+        listed = listed.replace("any point", "any point, but not in place of 31")
+        lines = textwrap.wrap(f"The first that applies: {listed}.", 120, initial_indent="/// ", subsequent_indent="/// ")
+        return found["head"] + "\n".join(lines).replace("~", " ") + "\n" + found["rest"]
+
+    form = (r"(?P<head>/// # Errors\n///\n)(?:/// [^\n]*\n)+"
+            r'(?P<rest>(?:(?:///|#\[)[^\n]*\n)*pub extern "C" fn (?P<call>nr_\w+))')
+    return re.sub(form, errors, text)
+
+
 def rust_type(kind: str) -> str:
     """A type of nr.h in Rust."""
     name = re.sub(r"\bconst\b|\*", "", kind).strip()
@@ -138,5 +154,6 @@ def for_ctypes(text: str) -> str:
 TEXTS: dict[str, typing.Callable[[str], str]] = {
     "c/rust/src/raw.rs": for_raw,
     "c/nr/_library.py": for_ctypes,
+    **{f"crates/nr_c/src/{name}.rt": for_exports for name in ("link", "many", "packed", "soft", "stages", "table")},
     **{f"c/rust/src/{name}.rs": for_crate for name in ("calls", "many", "packed", "receiver", "simulation", "soft")},
 }

@@ -20,18 +20,9 @@ use std::alloc::Global;
 ///
 /// # Errors
 ///
-/// The first that applies, in this order:
-///
-/// - 31 `Entries`, if an entry of the shift table is outside its base graph, or does not come after those before it;
-/// - 29 `Empty`, if the shift table has no entry;
-/// - 26 `Core`, 27 `Extension` or 28 `MissingRow`, for each base graph that has an entry;
-/// - 40 `Size`, 41 `RateRange` or 45 `Uneven`, as `nr_plan` returns them;
-/// - 46 `Graph`, if the table lacks the base graph of such a block;
-/// - 47 `NoBuffer`, if the limited buffer keeps no bit;
-/// - of the transmission 50 `Rv`, 51 `Order`, 52 `Layers`, 53 `Total`, 54 `Ragged` or 55 `NoneScheduled`, as
-///   `nr_lengths` returns them;
-/// - 2 `Room`, if `out` does not have G octets;
-/// - 1, as soon as memory runs out, but never in place of 31.
+/// The first that applies: 31 `Entries`, 29 `Empty`, 26 `Core`, 27 `Extension`, 28 `MissingRow`, 40 `Size`,
+/// 41 `RateRange`, 45 `Uneven`, 46 `Graph`, 47 `NoBuffer`, 50 `Rv`, 51 `Order`, 52 `Layers`, 53 `Total`, 54 `Ragged`,
+/// 55 `NoneScheduled`, 2 `Room`; 1 `Memory` at any point, but not in place of 31.
 ///
 /// On an error nothing is written.
 #[unsafe(no_mangle)]
@@ -62,20 +53,13 @@ pub extern "C" fn nr_send(
 ///
 /// # Errors
 ///
-/// The first that applies, in this order:
+/// The first that applies: 31 `Entries`, 29 `Empty`, 26 `Core`, 27 `Extension`, 28 `MissingRow`, 40 `Size`,
+/// 41 `RateRange`, 45 `Uneven`, 2 `Room`, 46 `Graph`, 47 `NoBuffer`; for each transmission 56 `Length`, 50 `Rv`,
+/// 51 `Order`, 52 `Layers`, 53 `Total`, 54 `Ragged`, 55 `NoneScheduled`; 56 `Length`; 1 `Memory` at any point, but not
+/// in place of 31.
 ///
-/// - of the shift table 31 `Entries`, 29 `Empty`, 26 `Core`, 27 `Extension` or 28 `MissingRow`, as `nr_send` returns
-///   them;
-/// - 40 `Size`, 41 `RateRange` or 45 `Uneven`, as `nr_plan` returns them;
-/// - 2 `Room`, if `outcomes`, `left` or `block` has another length;
-/// - 46 `Graph`, if the table lacks the base graph of such a block;
-/// - 47 `NoBuffer`, if the limited buffer keeps no bit;
-/// - for each transmission in turn 56 `Length`, if fewer than G octets are left, or 50 to 55, as `nr_lengths` returns
-///   them;
-/// - 56 `Length`, if octets are left over;
-/// - 1, as soon as memory runs out, but never in place of 31.
-///
-/// On an error nothing is written.
+/// `Length` means that `heard` has fewer than G octets left for a transmission, or more after the last one. On an error
+/// nothing is written.
 #[unsafe(no_mangle)]
 pub extern "C" fn nr_receive(
     alloc: Global,
@@ -103,9 +87,7 @@ pub extern "C" fn nr_receive(
 ///
 /// # Errors
 ///
-/// The first that applies:
-///
-/// - 40 `Size`, 41 `RateRange` or 45 `Uneven`, as `nr_plan` returns them.
+/// The first that applies: 40 `Size`, 41 `RateRange`, 45 `Uneven`.
 ///
 /// On an error nothing is written.
 #[unsafe(no_mangle)]
@@ -120,15 +102,8 @@ pub extern "C" fn nr_receiver_size(rate2048: u32, a: u32, out: &mut usize) -> u3
 ///
 /// # Errors
 ///
-/// The first that applies, in this order:
-///
-/// - of the shift table 31 `Entries`, 29 `Empty`, 26 `Core`, 27 `Extension` or 28 `MissingRow`, as `nr_send` returns
-///   them;
-/// - 40 `Size`, 41 `RateRange` or 45 `Uneven`, as `nr_plan` returns them;
-/// - 2 `Room`, if `room` has another length;
-/// - 46 `Graph`, if the table lacks the base graph of such a block;
-/// - 47 `NoBuffer`, if the limited buffer keeps no bit;
-/// - 1, as soon as memory runs out, but never in place of 31.
+/// The first that applies: 31 `Entries`, 29 `Empty`, 26 `Core`, 27 `Extension`, 28 `MissingRow`, 40 `Size`,
+/// 41 `RateRange`, 45 `Uneven`, 2 `Room`, 46 `Graph`, 47 `NoBuffer`; 1 `Memory` at any point, but not in place of 31.
 ///
 /// On an error nothing is written.
 #[unsafe(no_mangle)]
@@ -153,19 +128,9 @@ pub extern "C" fn nr_receiver_start(
 ///
 /// # Errors
 ///
-/// The first that applies, in this order:
-///
-/// - of the shift table 31 `Entries`, 29 `Empty`, 26 `Core`, 27 `Extension` or 28 `MissingRow`, as `nr_send` returns
-///   them;
-/// - 40 `Size`, 41 `RateRange` or 45 `Uneven`, as `nr_plan` returns them;
-/// - 2 `Room`, if `room`, `left` or `block` has another length;
-/// - 46 `Graph`, if the table lacks the base graph of such a block;
-/// - 47 `NoBuffer`, if the limited buffer keeps no bit;
-/// - 8 `State`, if `room` was created for another table, block size or buffer limit, or is corrupt;
-/// - of the transmission 50 `Rv`, 51 `Order`, 52 `Layers`, 53 `Total`, 54 `Ragged` or 55 `NoneScheduled`, as
-///   `nr_lengths` returns them;
-/// - 56 `Length`, if `heard` does not have G octets;
-/// - 1, as soon as memory runs out, but never in place of 31.
+/// The first that applies: 31 `Entries`, 29 `Empty`, 26 `Core`, 27 `Extension`, 28 `MissingRow`, 40 `Size`,
+/// 41 `RateRange`, 45 `Uneven`, 2 `Room`, 46 `Graph`, 47 `NoBuffer`, 8 `State`, 50 `Rv`, 51 `Order`, 52 `Layers`,
+/// 53 `Total`, 54 `Ragged`, 55 `NoneScheduled`, 56 `Length`; 1 `Memory` at any point, but not in place of 31.
 ///
 /// On an error nothing is written.
 #[unsafe(no_mangle)]
@@ -217,20 +182,13 @@ pub extern "C" fn nr_erase(seed: u64, threshold: u32, heard: &mut [u8]) -> u32
 ///
 /// # Errors
 ///
-/// The first that applies, in this order:
+/// The first that applies: 31 `Entries`, 29 `Empty`, 26 `Core`, 27 `Extension`, 28 `MissingRow`, 40 `Size`,
+/// 41 `RateRange`, 45 `Uneven`, 3 `Many`, 56 `Length`, 2 `Room`, 46 `Graph`, 47 `NoBuffer`; for each transmission
+/// 50 `Rv`, 51 `Order`, 52 `Layers`, 53 `Total`, 54 `Ragged`, 55 `NoneScheduled`; 1 `Memory` at any point, but not in
+/// place of 31.
 ///
-/// - of the shift table 31 `Entries`, 29 `Empty`, 26 `Core`, 27 `Extension` or 28 `MissingRow`, as `nr_send` returns
-///   them;
-/// - 40 `Size`, 41 `RateRange` or 45 `Uneven`, as `nr_plan` returns them;
-/// - 3 `Many`, if there are more than 1,000 transmissions;
-/// - 56 `Length`, if `thresholds` does not have T entries, or `seeds` does not have T for each round;
-/// - 2 `Room`, if `left` or `erased` has another length;
-/// - 46 `Graph`, if the table lacks the base graph of such a block;
-/// - 47 `NoBuffer`, if the limited buffer keeps no bit;
-/// - for each transmission in turn 50 to 55, as `nr_lengths` returns them;
-/// - 1, as soon as memory runs out, but never in place of 31.
-///
-/// On an error nothing is written.
+/// `Many` means more than 1,000 transmissions, and `Length` that `thresholds` does not have T entries, or `seeds` not T
+/// for each round. On an error nothing is written.
 #[unsafe(no_mangle)]
 pub extern "C" fn nr_simulate(
     alloc: Global,

@@ -17,18 +17,12 @@ use std::alloc::Global;
 ///
 /// # Errors
 ///
-/// The first that applies, in this order:
+/// The first that applies: 31 `Entries`, 29 `Empty`, 26 `Core`, 27 `Extension`, 28 `MissingRow`, 3 `Many`, 40 `Size`,
+/// 41 `RateRange`, 45 `Uneven`, 46 `Graph`, 47 `NoBuffer`; for each transmission 50 `Rv`, 51 `Order`, 52 `Layers`,
+/// 53 `Total`, 54 `Ragged`, 55 `NoneScheduled`; 2 `Room`; 1 `Memory` at any point, but not in place of 31.
 ///
-/// - of the shift table 31 `Entries`, 29 `Empty`, 26 `Core`, 27 `Extension` or 28 `MissingRow`, as `nr_send` returns
-///   them;
-/// - 3 `Many`, if there are more than 1,000 transmissions;
-/// - 40 `Size`, as `nr_plan` returns it, or if `blocks` does not have `count` rows;
-/// - 41 `RateRange`, 45 `Uneven`, 46 `Graph` or 47 `NoBuffer`, as `nr_send` returns them;
-/// - for each transmission in turn 50 to 55, as `nr_lengths` returns them;
-/// - 2 `Room`, if `out` does not have `count` rows;
-/// - 1, as soon as memory runs out, but never in place of 31.
-///
-/// On an error nothing is written. All of it is judged before the first block, also if `count` is 0.
+/// `Many` means more than 1,000 transmissions, and `Size` also that `blocks` does not have `count` rows. On an error
+/// nothing is written. All of it is judged before the first block, also if `count` is 0.
 #[unsafe(no_mangle)]
 pub extern "C" fn nr_send_many(
     alloc: Global,
@@ -53,19 +47,13 @@ pub extern "C" fn nr_send_many(
 ///
 /// # Errors
 ///
-/// The first that applies, in this order:
+/// The first that applies: 31 `Entries`, 29 `Empty`, 26 `Core`, 27 `Extension`, 28 `MissingRow`, 3 `Many`, 40 `Size`,
+/// 41 `RateRange`, 45 `Uneven`, 2 `Room`, 56 `Length`, 46 `Graph`, 47 `NoBuffer`; for each transmission 50 `Rv`,
+/// 51 `Order`, 52 `Layers`, 53 `Total`, 54 `Ragged`, 55 `NoneScheduled`; 1 `Memory` at any point, but not in place of
+/// 31.
 ///
-/// - of the shift table 31 `Entries`, 29 `Empty`, 26 `Core`, 27 `Extension` or 28 `MissingRow`, as `nr_send` returns
-///   them;
-/// - 3 `Many`, if there are more than 1,000 transmissions;
-/// - 40 `Size`, 41 `RateRange` or 45 `Uneven`, as `nr_plan` returns them;
-/// - 2 `Room`, if `outcomes`, `left` or `blocks` does not have `count` rows;
-/// - 56 `Length`, if `heard` does not have `count` rows;
-/// - 46 `Graph` or 47 `NoBuffer`, as `nr_send` returns them;
-/// - for the first block and each transmission in turn 50 to 55, as `nr_lengths` returns them;
-/// - 1, as soon as memory runs out, but never in place of 31.
-///
-/// On an error nothing is written. If `count` is 0 everything but the transmissions is judged.
+/// `Many` means more than 1,000 transmissions, and `Length` that `heard` does not have `count` rows. On an error
+/// nothing is written. If `count` is 0 everything but the transmissions is judged.
 #[unsafe(no_mangle)]
 pub extern "C" fn nr_receive_many(
     alloc: Global,

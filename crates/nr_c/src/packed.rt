@@ -18,9 +18,9 @@ use std::alloc::Global;
 ///
 /// # Errors
 ///
-/// The first that applies:
-///
-/// - those of `nr_send`, in its order, with 2 `Room` if `out` does not have (G + 7) / 8 octets.
+/// The first that applies: 31 `Entries`, 29 `Empty`, 26 `Core`, 27 `Extension`, 28 `MissingRow`, 40 `Size`,
+/// 41 `RateRange`, 45 `Uneven`, 46 `Graph`, 47 `NoBuffer`, 50 `Rv`, 51 `Order`, 52 `Layers`, 53 `Total`, 54 `Ragged`,
+/// 55 `NoneScheduled`, 2 `Room`; 1 `Memory` at any point, but not in place of 31.
 ///
 /// On an error nothing is written.
 #[unsafe(no_mangle)]
@@ -48,20 +48,13 @@ pub extern "C" fn nr_send_packed(
 ///
 /// # Errors
 ///
-/// The first that applies, in this order:
+/// The first that applies: 31 `Entries`, 29 `Empty`, 26 `Core`, 27 `Extension`, 28 `MissingRow`, 40 `Size`,
+/// 41 `RateRange`, 45 `Uneven`, 2 `Room`, 46 `Graph`, 47 `NoBuffer`; for each transmission 56 `Length`, 50 `Rv`,
+/// 51 `Order`, 52 `Layers`, 53 `Total`, 54 `Ragged`, 55 `NoneScheduled`; 56 `Length`; 1 `Memory` at any point, but not
+/// in place of 31.
 ///
-/// - of the shift table 31 `Entries`, 29 `Empty`, 26 `Core`, 27 `Extension` or 28 `MissingRow`, as `nr_send` returns
-///   them;
-/// - 40 `Size`, 41 `RateRange` or 45 `Uneven`, as `nr_plan` returns them;
-/// - 2 `Room`, if `outcomes`, `left` or `block` has another length;
-/// - 46 `Graph`, if the table lacks the base graph of such a block;
-/// - 47 `NoBuffer`, if the limited buffer keeps no bit;
-/// - for each transmission in turn 56 `Length`, if `bits` or `known` has fewer than (G + 7) / 8 octets left, or 50 to
-///   55, as `nr_lengths` returns them;
-/// - 56 `Length`, if octets of either are left over;
-/// - 1, as soon as memory runs out, but never in place of 31.
-///
-/// On an error nothing is written.
+/// `Length` means that `bits` or `known` has too few octets for a transmission, or more after the last one. On an error
+/// nothing is written.
 #[unsafe(no_mangle)]
 pub extern "C" fn nr_receive_packed(
     alloc: Global,

@@ -20,12 +20,8 @@ use std::alloc::Global;
 ///
 /// # Errors
 ///
-/// The first that applies, in this order:
-///
-/// - 40 `Size`, 41 `RateRange` or 45 `Uneven`, as `nr_plan` returns them;
-/// - 47 `NoBuffer`, if the limited buffer keeps no bit;
-/// - 50 `Rv`, 51 `Order`, 52 `Layers`, 53 `Total`, 54 `Ragged` or 55 `NoneScheduled`, as `nr_lengths` returns them;
-/// - 2 `Room`, if `out` does not have G entries.
+/// The first that applies: 40 `Size`, 41 `RateRange`, 45 `Uneven`, 47 `NoBuffer`, 50 `Rv`, 51 `Order`, 52 `Layers`,
+/// 53 `Total`, 54 `Ragged`, 55 `NoneScheduled`, 2 `Room`.
 ///
 /// On an error nothing is written.
 #[unsafe(no_mangle)]
@@ -46,13 +42,7 @@ pub extern "C" fn nr_places(settings: &NrSettings, a: u32, tx: &NrTx, out: &mut 
 ///
 /// # Errors
 ///
-/// The first that applies, in this order:
-///
-/// - 40 `Size`, 41 `RateRange` or 45 `Uneven`, as `nr_plan` returns them;
-/// - 56 `Length`, if `bits` does not have C K' octets;
-/// - 5 `Bit`, if one of them is neither 0 nor 1;
-/// - 2 `Room`, if `passed` does not have C octets or `block` does not have a / 8;
-/// - 1, if memory runs out, which is returned only if none of these applies.
+/// The first that applies: 40 `Size`, 41 `RateRange`, 45 `Uneven`, 56 `Length`, 5 `Bit`, 2 `Room`, 1 `Memory`.
 ///
 /// On an error nothing is written.
 #[unsafe(no_mangle)]

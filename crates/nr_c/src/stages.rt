@@ -25,11 +25,7 @@ use std::alloc::Global;
 ///
 /// # Errors
 ///
-/// The first that applies, in this order:
-///
-/// - 40 `Size`, if `a` is not a multiple of 8 from 8 to 1,310,720;
-/// - 41 `RateRange`, if `rate2048` is not 1 to 2048;
-/// - 45 `Uneven`, if the code blocks would not all have the same number of bits.
+/// The first that applies: 40 `Size`, 41 `RateRange`, 45 `Uneven`.
 ///
 /// On an error nothing is written.
 #[unsafe(no_mangle)]
@@ -45,13 +41,9 @@ pub extern "C" fn nr_plan(rate2048: u32, a: u32, out: &mut NrPlan) -> u32
 ///
 /// # Errors
 ///
-/// The first that applies, in this order:
+/// The first that applies: 4 `Poly`, 3 `Many`, 1 `Memory`.
 ///
-/// - 4 `Poly`, if `poly` is above 2;
-/// - 3 `Many`, if there are more than 2,097,152 octets;
-/// - 1, if memory runs out, which is returned only if none of these applies.
-///
-/// On an error nothing is written.
+/// `Many` means more than 2,097,152 octets. On an error nothing is written.
 #[unsafe(no_mangle)]
 pub extern "C" fn nr_crc(alloc: Global, poly: u32, octets: &[u8], out: &mut u32) -> u32
     ensures { Returns memory_last result out.old out.new HasValue (crc_said poly octets.now) }
@@ -65,12 +57,7 @@ pub extern "C" fn nr_crc(alloc: Global, poly: u32, octets: &[u8], out: &mut u32)
 ///
 /// # Errors
 ///
-/// The first that applies, in this order:
-///
-/// - 40 `Size`, 41 `RateRange` or 45 `Uneven`, as `nr_plan` returns them;
-/// - 7 `CodeBlock`, if `r` is not below C;
-/// - 2 `Room`, if `out` does not have K' octets;
-/// - 1, if memory runs out, which is returned only if none of these applies.
+/// The first that applies: 40 `Size`, 41 `RateRange`, 45 `Uneven`, 7 `CodeBlock`, 2 `Room`, 1 `Memory`.
 ///
 /// On an error nothing is written.
 #[unsafe(no_mangle)]
@@ -88,18 +75,10 @@ pub extern "C" fn nr_cut(alloc: Global, rate2048: u32, block: &[u8], r: u32, out
 ///
 /// # Errors
 ///
-/// The first that applies, in this order:
+/// The first that applies: 31 `Entries`, 29 `Empty`, 26 `Core`, 27 `Extension`, 28 `MissingRow`, 46 `Graph`,
+/// 6 `Lifting`, 56 `Length`, 5 `Bit`, 2 `Room`; 1 `Memory` at any point, but not in place of 31.
 ///
-/// - of the shift table 31 `Entries`, 29 `Empty`, 26 `Core`, 27 `Extension` or 28 `MissingRow`, as `nr_send` returns
-///   them;
-/// - 46 `Graph`, if `graph` is neither 1 nor 2, or the table lacks it;
-/// - 6 `Lifting`, if no code block of the base graph has the lifting size;
-/// - 56 `Length`, if `bits` does not have K octets;
-/// - 5 `Bit`, if one of them is not 0, 1 or 2;
-/// - 2 `Room`, if `out` does not have N octets;
-/// - 1, as soon as memory runs out, but never in place of 31.
-///
-/// On an error nothing is written.
+/// `Graph` means that `graph` is neither 1 nor 2, or that the table lacks it. On an error nothing is written.
 #[unsafe(no_mangle)]
 pub extern "C" fn nr_encode(
     alloc: Global,
@@ -122,16 +101,9 @@ pub extern "C" fn nr_encode(
 ///
 /// # Errors
 ///
-/// The first that applies, in this order:
-///
-/// - of the shift table 31 `Entries`, 29 `Empty`, 26 `Core`, 27 `Extension` or 28 `MissingRow`, as `nr_send` returns
-///   them;
-/// - 40 `Size`, 41 `RateRange` or 45 `Uneven`, as `nr_plan` returns them;
-/// - 46 `Graph`, if the table lacks the base graph;
-/// - 56 `Length`, if `bits` does not have K' octets;
-/// - 5 `Bit`, if one of them is neither 0 nor 1;
-/// - 2 `Room`, if `out` does not have N octets;
-/// - 1, as soon as memory runs out, but never in place of 31.
+/// The first that applies: 31 `Entries`, 29 `Empty`, 26 `Core`, 27 `Extension`, 28 `MissingRow`, 40 `Size`,
+/// 41 `RateRange`, 45 `Uneven`, 46 `Graph`, 56 `Length`, 5 `Bit`, 2 `Room`; 1 `Memory` at any point, but not in place
+/// of 31.
 ///
 /// On an error nothing is written.
 #[unsafe(no_mangle)]
@@ -156,16 +128,8 @@ pub extern "C" fn nr_codeword(
 ///
 /// # Errors
 ///
-/// The first that applies, in this order:
-///
-/// - 40 `Size`, 41 `RateRange` or 45 `Uneven`, as `nr_plan` returns them;
-/// - 50 `Rv`, if the redundancy version is above 3;
-/// - 51 `Order`, if `qm` is not 1, 2, 4, 6 or 8;
-/// - 52 `Layers`, if `nl` is not 1 to 4;
-/// - 53 `Total`, if `g` is not 1 to 4,194,304;
-/// - 54 `Ragged`, if `g` is not a multiple of `qm * nl`;
-/// - 55 `NoneScheduled`, if no code block of the transport block is scheduled;
-/// - 2 `Room`, if `out` does not have C entries.
+/// The first that applies: 40 `Size`, 41 `RateRange`, 45 `Uneven`, 50 `Rv`, 51 `Order`, 52 `Layers`, 53 `Total`,
+/// 54 `Ragged`, 55 `NoneScheduled`, 2 `Room`.
 ///
 /// On an error nothing is written.
 #[unsafe(no_mangle)]
@@ -182,11 +146,7 @@ pub extern "C" fn nr_lengths(rate2048: u32, a: u32, tx: &NrTx, out: &mut [u32]) 
 ///
 /// # Errors
 ///
-/// The first that applies, in this order:
-///
-/// - 40 `Size`, 41 `RateRange` or 45 `Uneven`, as `nr_plan` returns them;
-/// - 47 `NoBuffer`, if the limited buffer keeps no bit;
-/// - 50 `Rv`, if `rv` is above 3.
+/// The first that applies: 40 `Size`, 41 `RateRange`, 45 `Uneven`, 47 `NoBuffer`, 50 `Rv`.
 ///
 /// On an error nothing is written.
 #[unsafe(no_mangle)]
@@ -203,17 +163,11 @@ pub extern "C" fn nr_buffer(settings: &NrSettings, a: u32, rv: u32, out: &mut Nr
 ///
 /// # Errors
 ///
-/// The first that applies, in this order:
+/// The first that applies: 40 `Size`, 41 `RateRange`, 45 `Uneven`, 47 `NoBuffer`, 50 `Rv`, 56 `Length`, 5 `Bit`,
+/// 3 `Many`, 1 `Memory`.
 ///
-/// - 40 `Size`, 41 `RateRange` or 45 `Uneven`, as `nr_plan` returns them;
-/// - 47 `NoBuffer`, if the limited buffer keeps no bit;
-/// - 50 `Rv`, if `rv` is above 3;
-/// - 56 `Length`, if `d` does not have N octets;
-/// - 5 `Bit`, if an octet is neither 0 nor 1, or not 2 in the place of a filler;
-/// - 3 `Many`, if `out` has more than 4,194,304 octets;
-/// - 1, if memory runs out, which is returned only if none of these applies.
-///
-/// On an error nothing is written.
+/// `Many` means that `out` has more than 4,194,304 octets, and `Bit` that one of `d` is not a bit, or not 2 exactly in
+/// the place of a filler. On an error nothing is written.
 #[unsafe(no_mangle)]
 pub extern "C" fn nr_select(
     alloc: Global,
@@ -234,16 +188,10 @@ pub extern "C" fn nr_select(
 ///
 /// # Errors
 ///
-/// The first that applies, in this order:
+/// The first that applies: 51 `Order`, 3 `Many`, 54 `Ragged`, 5 `Bit`, 2 `Room`, 1 `Memory`.
 ///
-/// - 51 `Order`, if `qm` is not 1, 2, 4, 6 or 8;
-/// - 3 `Many`, if there are more than 4,194,304 octets;
-/// - 54 `Ragged`, if their number is not a multiple of `qm`;
-/// - 5 `Bit`, if one of them is neither 0 nor 1;
-/// - 2 `Room`, if `out` has another length;
-/// - 1, if memory runs out, which is returned only if none of these applies.
-///
-/// On an error nothing is written.
+/// `Many` means more than 4,194,304 octets, and `Ragged` that their number is not a multiple of `qm`. On an error
+/// nothing is written.
 #[unsafe(no_mangle)]
 pub extern "C" fn nr_interleave(alloc: Global, qm: u32, bits: &[u8], out: &mut [u8]) -> u32
     ensures { Returns memory_last result out.old out.new AreBits
@@ -259,21 +207,12 @@ pub extern "C" fn nr_interleave(alloc: Global, qm: u32, bits: &[u8], out: &mut [
 ///
 /// # Errors
 ///
-/// The first that applies, in this order:
+/// The first that applies: 46 `Graph`, 6 `Lifting`, 7 `CodeBlock`, 47 `NoBuffer`, 50 `Rv`, 51 `Order`, 56 `Length`,
+/// 5 `Bit`, 3 `Many`, 54 `Ragged`, 1 `Memory`.
 ///
-/// - 46 `Graph`, if `graph` is neither 1 nor 2;
-/// - 6 `Lifting`, if no code block of the base graph has the lifting size;
-/// - 7 `CodeBlock`, if `fillers` is not below K - 2 Zc, because K' is then not above 2 Zc;
-/// - 47 `NoBuffer`, if `ncb` is not 1 to N;
-/// - 50 `Rv`, if `rv` is above 3;
-/// - 51 `Order`, if `qm` is not 1, 2, 4, 6 or 8;
-/// - 56 `Length`, if `d` does not have N octets;
-/// - 5 `Bit`, if an octet is neither 0 nor 1, or not 2 in the place of a filler;
-/// - 3 `Many`, if `out` has more than 4,194,304 octets;
-/// - 54 `Ragged`, if their number is not a multiple of `qm`;
-/// - 1, if memory runs out, which is returned only if none of these applies.
-///
-/// On an error nothing is written.
+/// `Graph` means that `graph` is neither 1 nor 2, and `CodeBlock` that `fillers` is not below K - 2 Zc, because K' is
+/// then not above 2 Zc. `Many` and `Bit` are as `nr_select` has them, and `Ragged` means that `out` is not as long as a
+/// multiple of `qm`. On an error nothing is written.
 #[unsafe(no_mangle)]
 pub extern "C" fn nr_match(alloc: Global, numbers: &NrMatch, d: &[u8], out: &mut [u8]) -> u32
     ensures { Returns memory_last result out.old out.new AreBits

@@ -17,15 +17,10 @@ use std::alloc::Global;
 ///
 /// # Errors
 ///
-/// The first that applies, in this order:
+/// The first that applies: 30 `TooLong`, 21 `Csv`, 22 `Fields`, 23 `Number`, 24 `Range`, 25 `Twice`, 29 `Empty`,
+/// 26 `Core`, 27 `Extension`, 28 `MissingRow`, 1 `Memory`.
 ///
-/// - 30 `TooLong`, if the text has more than 4,194,304 octets;
-/// - record by record 21 `Csv`, 22 `Fields`, 23 `Number`, 24 `Range` or 25 `Twice`;
-/// - 29 `Empty`, if there is no entry;
-/// - 26 `Core`, 27 `Extension` or 28 `MissingRow`, for each base graph that has an entry;
-/// - 1, if memory runs out, but never in place of 30.
-///
-/// Only with 1 is `out` not written.
+/// A text that is too long is 30 even if no memory is left. Only with 1 is `out` not written.
 #[unsafe(no_mangle)]
 pub extern "C" fn nr_table_check(alloc: Global, text: &[u8], out: &mut NrReport) -> u32
     ensures said { OrOutOfMemory result out.old out.new ((result ≡ judged_status (table_said text.now))
@@ -41,13 +36,10 @@ pub extern "C" fn nr_table_check(alloc: Global, text: &[u8], out: &mut NrReport)
 ///
 /// # Errors
 ///
-/// The first that applies, in this order:
+/// The first that applies: 30 `TooLong`, 21 `Csv`, 22 `Fields`, 23 `Number`, 24 `Range`, 25 `Twice`, 29 `Empty`,
+/// 26 `Core`, 27 `Extension`, 28 `MissingRow`, 1 `Memory`, 2 `Room`.
 ///
-/// - 21 to 30, as `nr_table_check` returns them;
-/// - 2 `Room`, if `out` does not have as many entries;
-/// - 1, if memory runs out, but never in place of 30.
-///
-/// On an error `out` is not written, and `count` only with 2.
+/// A text that is too long is 30 even if no memory is left. On an error `out` is not written, and `count` only with 2.
 #[unsafe(no_mangle)]
 pub extern "C" fn nr_table_entries(
     alloc: Global,
