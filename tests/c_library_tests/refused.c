@@ -132,10 +132,12 @@ static uint32_t send_many(void) {
     return nr_send_many(table, table_len, &settings, 8 * OCTETS, txs, 1, 2, two_blocks, 2 * OCTETS, rooms.many_bits, 2 * G);
 }
 
-/* The last transmission alone, in each of two rows. */
+/* The last transmission alone, in each of so many rows. */
+static size_t rows = 1;
+
 static uint32_t receive_many(void) {
-    return nr_receive_many(table, table_len, &settings, 8 * OCTETS, txs, 1, 2, two_heard, 2 * G, rooms.outcomes, 2, rooms.rows, 2,
-                           rooms.many_blocks, 2 * OCTETS);
+    return nr_receive_many(table, table_len, &settings, 8 * OCTETS, txs, 1, rows, two_heard, rows * G, rooms.outcomes, rows,
+                           rooms.rows, rows, rooms.many_blocks, rows * OCTETS);
 }
 
 static uint32_t start(void) { return nr_receiver_start(table, table_len, &settings, 8 * OCTETS, rooms.kept, KEPT); }
@@ -188,12 +190,12 @@ static uint32_t refusing(uint32_t (*call)(void), unsigned long from, unsigned lo
     return status;
 }
 
-/* `due` is what the call answers with memory to spare. */
-static void sweep(const char *name, uint32_t (*call)(void), uint32_t due) {
+/* `due` is what the call answers with memory to spare, after `most` growths at most: as nr.h says of one code block. */
+static void sweep(const char *name, uint32_t (*call)(void), uint32_t due, unsigned long most) {
     unsigned long growths;
     CHECK(refusing(call, 0, 0) == due && held == 0 && is_right(name));
     growths = met;
-    CHECK(growths > 0);
+    CHECK(growths > 0 && growths <= most);
     for (unsigned long growth = 1; growth <= growths; growth++)
         for (int alone = 0; alone < 2; alone++) {
             uint32_t status = refusing(call, growth, alone ? growth : (unsigned long)-1);
@@ -266,33 +268,35 @@ int main(int count, char **words) {
     /* the same packed: nothing is known of the first transmission, all of the second */
     for (int m = 0; m < G; m++) packed[(G + m) / 8] |= (uint8_t)(heard[G + m] << (7 - m % 8));
     memset(known + G / 8, 0xFF, G / 8);
-    sweep("nr_table_check", check_table, NR_OK);
-    sweep("nr_table_check, refused", check_bad_table, NR_ERR_CSV);
-    sweep("nr_table_entries", list, NR_OK);
-    sweep("nr_table_entries, less room", list_in_less, NR_ERR_ROOM);
-    sweep("nr_table_entries, refused", list_bad, NR_ERR_CSV);
-    sweep("nr_crc", crc, NR_OK);
-    sweep("nr_codeword", codeword, NR_OK);
-    sweep("nr_cut", cut, NR_OK);
-    sweep("nr_encode", encode, NR_OK);
-    sweep("nr_join", join, NR_OK);
-    sweep("nr_select", selection, NR_OK);
-    sweep("nr_interleave", interleaving, NR_OK);
-    sweep("nr_match", matching, NR_OK);
-    sweep("nr_send", send, NR_OK);
-    sweep("nr_receive", receive, NR_OK);
-    sweep("nr_send_packed", send_packed, NR_OK);
-    sweep("nr_receive_packed", receive_packed, NR_OK);
-    sweep("nr_simulate", simulate, NR_OK);
+    sweep("nr_table_check", check_table, NR_OK, 34);
+    sweep("nr_table_check, refused", check_bad_table, NR_ERR_CSV, 18);
+    sweep("nr_table_entries", list, NR_OK, 34);
+    sweep("nr_table_entries, less room", list_in_less, NR_ERR_ROOM, 34);
+    sweep("nr_table_entries, refused", list_bad, NR_ERR_CSV, 18);
+    sweep("nr_crc", crc, NR_OK, 1);
+    sweep("nr_codeword", codeword, NR_OK, 6);
+    sweep("nr_cut", cut, NR_OK, 3);
+    sweep("nr_encode", encode, NR_OK, 5);
+    sweep("nr_join", join, NR_OK, 3);
+    sweep("nr_select", selection, NR_OK, 2);
+    sweep("nr_interleave", interleaving, NR_OK, 2);
+    sweep("nr_match", matching, NR_OK, 3);
+    sweep("nr_send", send, NR_OK, 10);
+    sweep("nr_receive", receive, NR_OK, 29);
+    sweep("nr_send_packed", send_packed, NR_OK, 11);
+    sweep("nr_receive_packed", receive_packed, NR_OK, 33);
+    sweep("nr_simulate", simulate, NR_OK, 39);
     for (int k = 0; k < 2; k++) {
         memcpy(two_blocks + k * OCTETS, block, OCTETS);
         memcpy(two_heard + k * G, heard + G, G);
     }
-    sweep("nr_send_many", send_many, NR_OK);
-    sweep("nr_receive_many", receive_many, NR_OK);
+    sweep("nr_send_many", send_many, NR_OK, 17);
+    CHECK(refusing(receive_many, 0, 0) == NR_OK && met <= 40);
+    rows = 2;
+    sweep("nr_receive_many", receive_many, NR_OK, 49);
     CHECK(nr_receiver_start(table, table_len, &settings, 8 * OCTETS, begun, KEPT) == NR_OK);
-    sweep("nr_receiver_start", start, NR_OK);
-    sweep("nr_receiver_take", take, NR_OK);
+    sweep("nr_receiver_start", start, NR_OK, 18);
+    sweep("nr_receiver_take", take, NR_OK, 26);
     refuse_first();
     printf("%d wrong\n", wrong);
     return wrong != 0;
