@@ -36,6 +36,11 @@ static void take_block(struct sent_case *it, const char *digits)
 
 static void take_word(struct sent_case *it, const char *name, const char *value)
 {
+    static const char *const names[] = {"rate2048", "rv", "g", "qm", "nl"};
+    unsigned *const numbers[] = {&it->rate2048, &it->rv, &it->g, &it->qm, &it->nl};
+    for (unsigned n = 0; n < sizeof names / sizeof *names; n++)
+        if (!strcmp(name, names[n]))
+            *numbers[n] = strtoul(value, NULL, 10);
     if (!strcmp(name, "id"))
         snprintf(it->id, sizeof it->id, "%s", value);
     else if (!strcmp(name, "mask"))
@@ -45,16 +50,7 @@ static void take_word(struct sent_case *it, const char *name, const char *value)
     else if (!strcmp(name, "lbrm")) {
         it->limited = strcmp(value, "-") != 0;
         it->lbrm = strtoul(value, NULL, 10);
-    } else if (!strcmp(name, "rate2048"))
-        it->rate2048 = strtoul(value, NULL, 10);
-    else if (!strcmp(name, "rv"))
-        it->rv = strtoul(value, NULL, 10);
-    else if (!strcmp(name, "g"))
-        it->g = strtoul(value, NULL, 10);
-    else if (!strcmp(name, "qm"))
-        it->qm = strtoul(value, NULL, 10);
-    else if (!strcmp(name, "nl"))
-        it->nl = strtoul(value, NULL, 10);
+    }
 }
 
 /* Reads the next case; answers 0 if there is none. The caller frees `bits`. */
@@ -68,7 +64,7 @@ static int read_case(struct sent_case *it)
     for (char *name = strtok(line, " \n"), *value; name && (value = strtok(NULL, " \n")); name = strtok(NULL, " \n"))
         take_word(it, name, value);
     if (!it->bits) {
-        fputs("no case in plain words: `run` wants --plain\n", stderr);
+        fputs("no case in plain words: `run` needs --plain\n", stderr);
         exit(2);
     }
     return 1;

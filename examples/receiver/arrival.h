@@ -63,7 +63,7 @@ static enum read read_arrival(struct arrival *it)
     for (char *name = strtok(line, " \n"), *value; name && (value = strtok(NULL, " \n")); name = strtok(NULL, " \n"))
         take_word(it, name, value);
     if (!it->llr) {
-        fputs("no transmission in plain words: `run` wants --plain\n", stderr);
+        fputs("no transmission in plain words: `run` needs --plain\n", stderr);
         exit(2);
     }
     return ARRIVED;

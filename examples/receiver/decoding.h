@@ -108,7 +108,7 @@ static int decode(const struct plan *plan, const signed char *soft, unsigned len
     }
     for (unsigned place = 0; place < plan->kdash; place++)
         bits[place] = sums[place] < 0;
-    return (all_known(plan, sums) || planted == ZEROS_DELIVERED) && (!plan->l || crc_fits(bits, plan->kdash, 24, 0x800063));
+    return (all_known(plan, sums) || planted == ZEROS_DELIVERED) && (!plan->l || !crc_of(bits, plan->kdash, 24, 0x800063));
 }
 
 #endif

@@ -121,7 +121,7 @@ static struct process *process_of(const struct arrival *it)
 {
     unsigned number = planted == PROCESS_ONE ? 0 : planted == PROCESS_OF_EIGHT ? it->process % 8 : it->process;
     struct process *process = &processes[number % PROCESSES];
-    struct plan plan = plan_of(it);
+    struct plan plan = plan_of(it->a, it->rate2048, planted == KB_LIMITS);
     int clears = planted == CLEARED_NEVER ? 0 : planted == CLEARED_BY_RV ? it->rv == 0 : it->fresh != 0;
     if (it->fresh || !process->begun)
         process->first = *it;
@@ -171,7 +171,7 @@ static void receive(const struct arrival *it)
     }
     unsigned length = plan->b - plan->a;
     if (planted != CRC_UNCHECKED)
-        good &= crc_fits(block, plan->b, length, length == 24 ? 0x864CFB : 0x1021);
+        good &= !crc_of(block, plan->b, length, length == 24 ? 0x864CFB : 0x1021);
     printf("id %s tx %u delivered ", it->id, it->tx);
     if (good)
         write_digits(block, plan->a);

@@ -1,4 +1,4 @@
-"""Mistakes of the example encoder that tools/conform does not list, each as a change of examples/conform/encoder.h.
+"""Mistakes of the example encoder that tools/conform does not list, each as a change of examples/conform/encoder.h or chain.h.
 
 Each has what its diagnosis must say, if all steps are answered, and of the bits that are sent alone."""
 
@@ -159,7 +159,7 @@ ZC = "for (it.z = 2; set_of(it.z) == 8 || it.kb * it.z < it.kdash; it.z++)"
 ODD = "{1, 3, 5, 7, 9, 11, 13, 15}"
 
 SEGMENTATION = (
-    planted("kb-460", "the limit 560 of B is from 424 to 479", "it.b > 560", "it.b > 460"),
+    planted("kb-460", "the limit 560 of B is from 424 to 479", "over > 560", "over > 460"),
     planted("z-208-missing", ("exactly where Zc = 208", "exactly where Zc = 208"), ZC, ZC.replace("set_of(it.z) == 8", (
         "set_of(it.z) == 8 || it.z == 208"))),
     planted("sets-13-15", ("the set indexes 6 and 7 are exchanged",

@@ -36,7 +36,8 @@ def built(one: planted.Planted) -> pathlib.Path:
     folder.mkdir(exist_ok=True)
     for name in ("plain.h", "encoder.c"):
         shutil.copy(EXAMPLES / name, folder)
-    text = (EXAMPLES / "encoder.h").read_text()
+    chain = (EXAMPLES.parent / "chain.h").read_text()
+    text = (EXAMPLES / "encoder.h").read_text().replace('#include "../chain.h"\n', chain)
     for old, new in one.changes:
         assert text.count(old) == 1, (one.name, old)
         text = text.replace(old, new)

@@ -74,7 +74,7 @@ class InC(conform_shared.Commands):
         status, answers, said = shared.run([self.built("encoder"), conform_shared.table()], output.encode())
         self.assertEqual((status, said), (0, b""))
         wrong = shared.run([self.folder / "encoder", conform_shared.table()], b'{"id": "x"}\n')
-        self.assertEqual(wrong, (2, b"", b"no case in plain words: `run` wants --plain\n"))
+        self.assertEqual(wrong, (2, b"", b"no case in plain words: `run` needs --plain\n"))
         path = self.file("answers.txt", answers)
         status, output, error = conform_shared.conform("check", "--plain", conform_shared.few_path(), path)
         self.assertEqual((status, error, output.splitlines()[-1]), (0, "", "all that was answered agrees"))

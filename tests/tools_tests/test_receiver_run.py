@@ -46,7 +46,7 @@ class Asked(Run):
         status, lines, error = self.run_(receiver_shared.built("template"), more=["--plain"])
         self.assertEqual((status, error, lines[0]), (1, [], "suite quick: 6 cases, 6 answered"))
         wrong = shared.run([receiver_shared.built("template")], b'{"reset": true}\n')
-        self.assertEqual(wrong, (2, b"", b"no transmission in plain words: `run` wants --plain\n"))
+        self.assertEqual(wrong, (2, b"", b"no transmission in plain words: `run` needs --plain\n"))
 
     @unittest.skipUnless(shutil.which("cc"), "no C compiler is there")
     def test_blank_lines_of_a_table(self) -> None:

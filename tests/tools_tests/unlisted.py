@@ -9,7 +9,7 @@ from planted import (
     CODE_CRC, EXTENSION, LIMIT, Planted, REST, ROUND, SHIFT, START, TB_CRC, TURN, WORD, ZC, planted,
 )
 
-ANSWER = "    struct made made = {.plan = plan_of(it->a, it->rate2048)};"
+ANSWER = "    struct made made = {.plan = plan_of(it->a, it->rate2048, 0)};"
 K0 = "made.k0 = start_of(plan, it->rv, made.ncb);"
 NCB = "made.ncb = limit < plan->n ? limit : plan->n;"
 SHARE = "    share_out(it, plan, made.lengths);"
@@ -20,7 +20,7 @@ IF_BIT = "if (d[(k0 + j) % ncb] != FILLER)\n            " + ROUND
 SELECT = "    select_bits(d, made->k0, made->ncb, made->lengths[r], made->e + at);"
 INPUT = "    memcpy(made.b, it->bits, it->a);"
 WRITE = "    write_bits(made->f, sent);"
-KB = "it.b > 640 ? 10 : it.b > 560 ? 9 : it.b > 192 ? 8 : 6"
+KB = "over > 640 ? 10 : over > 560 ? 9 : over > 192 ? 8 : 6"
 TWO = "int two = a <= 292 || (a <= 3824 && 100 * rate2048 <= 67 * 2048) || 4 * rate2048 <= 2048;"
 COUNT = "it.c = it.b > kcb ? (it.b + kcb - 25) / (kcb - 24) : 1;"
 
@@ -80,8 +80,8 @@ STATE = (
             "static unsigned kept; unsigned now = it->lbrm; int now_limited = it->limited; "
             "if (started) it->lbrm = kept, it->limited = limited; kept = now, limited = now_limited, started = 1; }"),
     planted("crc-register-left", "register begins with the parity bits of the case before", REST,
-            REST.replace("unsigned rest = 0;", "static unsigned left; unsigned rest = length == 24 && "
-            "polynomial == 0x800063 ? 0 : left & ((1u << length) - 1);"),
+            REST.replace("rest = 0;", "rest = polynomial == 0x800063 ? 0 : left & ((1u << length) - 1);"),
+            "static unsigned crc_of(", "static unsigned left;\nstatic unsigned crc_of(",
             "        bits[count + i] = rest >> (length - 1 - i) & 1;",
             "        bits[count + i] = rest >> (length - 1 - i) & 1;\n    if (polynomial != 0x800063)\n        left = rest;"),
     planted("e-left", "case before", SELECT, SELECT + "\n    static unsigned char left[1 << 22];\n    static unsigned was;\n"
@@ -208,15 +208,15 @@ FORMULAS = (
 )
 
 BOUNDARIES = (
-    *(planted(f"kb-{most}-strict", f"B = {most}|limit {most}", KB, KB.replace(f"it.b > {most}", f"it.b >= {most}"))
+    *(planted(f"kb-{most}-strict", f"B = {most}|limit {most}", KB, KB.replace(f"over > {most}", f"over >= {most}"))
       for most in (640, 560, 192)),
-    planted("kb-576", "limit 560", KB, KB.replace("it.b > 560", "it.b > 576")),
-    planted("kb-no-192", "limit 192", KB, KB.replace("it.b > 192 ? 8 : 6", "8")),
+    planted("kb-576", "limit 560", KB, KB.replace("over > 560", "over > 576")),
+    planted("kb-no-192", "limit 192", KB, KB.replace("over > 192 ? 8 : 6", "8")),
     planted("graph-292-missing", "limit 292", TWO, TWO.replace("a <= 292", "0")),
     planted("graph-308", "limit 292|A = 296|A <=|A from", TWO, TWO.replace("a <= 292", "a <= 308")),
     planted("graph-rate-strict", "limit 1,372|1372", TWO, TWO.replace("100 * rate2048 <= 67 * 2048", "rate2048 < 1372")),
     planted("graph-3840", "limit 3,824", TWO, TWO.replace("a <= 3824", "a <= 3840")),
-    planted("crc-at-3824", "limit 3,824", "it = {.b = a + (a > 3824 ? 24 : 16)}", "it = {.b = a + (a >= 3824 ? "
+    planted("crc-at-3824", "limit 3,824", "it = {.a = a, .b = a + (a > 3824 ? 24 : 16)}", "it = {.a = a, .b = a + (a >= 3824 ? "
             "24 : 16)}", TB_CRC, TB_CRC.replace("a > 3824", "a >= 3824")),
     planted("kcb-3832", "limit 3,840|Kcb", "it.l = it.b > kcb ? 24 : 0;", "it.l = it.b > kcb - 8 * two ? 24 : "
             "0;", COUNT, COUNT.replace("it.b > kcb", "it.b > kcb - 8 * two")),
@@ -234,8 +234,8 @@ CODE_CRCS = (
             "rest = 0;", "rest = polynomial == 0x800063 ? chained : 0;"), CODE_CRC,
             "chained = r ? chained : 0;\n    if (plan->l)\n        put_crc(to, part, 24, 0x800063);\n    for "
             "(unsigned i = chained = 0; plan->l && i < 24; i++)\n"
-            "        chained = chained << 1 | to[part + i];", "static void put_crc(", "static unsigned "
-            "chained;\nstatic void put_crc("),
+            "        chained = chained << 1 | to[part + i];", "static unsigned crc_of(", "static "
+            "unsigned chained;\nstatic unsigned crc_of("),
     planted("code-crc-skips-8", "begins after 8 bits", CODE_CRC, "{ unsigned char *old = malloc(part + 32); "
             "memcpy(old, to + 8, part - 8); put_crc(old, part - 8, 24, 0x800063);"
             " memcpy(to + part, old + part - 8, 24); free(old); }"),
