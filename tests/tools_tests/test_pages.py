@@ -42,6 +42,7 @@ SAID = re.compile(r"(?s)\A(?:(?!\n#|```).)*?\n```\n(.*?)```")
 OURS = re.compile(r"(?<![\w/$.~-])(?:\./)?((?:tools|tests|bench|packaging|gate|examples|c|docs|crates|\.ci)/[a-z0-9_./-]+[a-z0-9_])(?![\w*{<])")
 TOOL = re.compile(r"(?<![\w/-])tools/([a-z-]+)(?![\w/.-])((?: +[a-z][a-z-]*(?=\s|$))*)")
 OPTION = re.compile(r"(?<![\w:-])(--[a-z][a-z0-9-]*)(?:[ =]([a-z]+)\b)?")
+SCRIPT = re.compile(r"(?<![\w/-])((?:bench|gate|packaging|tests)/[a-z-]+)(?![\w./-])")
 # What is built, what a reader makes, and a file of the crate for Rust.
 NOT_OURS = ("/out/", "obj_dir/", "crates/mine", "examples/erasures.rs")
 
@@ -125,20 +126,20 @@ class Marks(unittest.TestCase):
         for page in pages():
             named |= {(page.name, name) for code in sentences_code(page) for name in OURS.findall(code)}
         for place, name in sorted(named):
-            if not any(it in name for it in NOT_OURS):
+            if not any(it in f"{name}/" for it in NOT_OURS):
                 with self.subTest(place, name=name):
                     self.assertTrue((shared.ROOT / name).exists())
 
     def test_words_are_known(self) -> None:
-        """Each subcommand and option of a tool of ours is in its help, and each target of make in the Makefile. So are those that
-        stand in the sentences of a page."""
+        """Each subcommand and option of a tool of ours or of rt is in its help, each option of another script in the script, and each
+        target and variable of make in a Makefile. So are those that stand in the sentences of a page."""
         for block in blocks():
             for line in re.split(r"\n(?!> )|[|;]|&&", block.text.replace("\\\n", "")):
                 with self.subTest(block.place, line=line):
                     self.known(line)
         for page in pages():
             for line in sentences_code(page):
-                if line.startswith(("tools/", "make ", "pip ")):
+                if line.startswith(("tools/", "make ", "pip ", "rt ")) or SCRIPT.match(line):
                     with self.subTest(page.name, line=line):
                         self.known(line)
 
@@ -157,11 +158,35 @@ class Marks(unittest.TestCase):
                     self.assertIn(value, re.split(r"[,\s]+", choices[1]))
         for folder in re.findall(r"pip install '?(\./[^\s'*\[]+)(?![^\s]*\.whl)", line):
             self.assertTrue((shared.ROOT / folder).exists())
-        made = re.match(r"(?:\$ )?make ((?:[a-z-]+ ?)+)", line)
-        if made and " -C" not in line and " -f" not in line:
-            targets = (shared.ROOT / "Makefile").read_text()
-            for target in made[1].split():
-                self.assertRegex(targets, rf"(?m)^{target}:")
+        for script in SCRIPT.findall(line):
+            text = (shared.ROOT / script).read_text() + (shared.ROOT / "tests" / "outcome.py").read_text()
+            for option, _ in OPTION.findall(line.partition(script)[2].partition(" -- ")[0]):
+                self.assertIn(option, text)
+        for words in re.findall(r"(?:^|[$(] ?)rt ([a-z][^#]*)", line) if shutil.which("rt") else []:
+            self.assertEqual(set(re.findall(r"^[a-z-]+|--[a-z-]+", words.partition(" -- ")[0])) - words_of_kit(), set())
+        made = re.match(r"(?:\$ )?make( -C c)?((?: [a-z-]+)*)((?: [A-Z].*)?)$", line.partition("#")[0].rstrip())
+        if made:
+            rules = (shared.ROOT / ("c/Makefile" if made[1] else "Makefile")).read_text()
+            for target in made[2].split():
+                self.assertRegex(rules, rf"(?m)^{target}:")
+            for variable in re.findall(r"\b([A-Z]+)=", made[3]):
+                self.assertIn(f"$({variable})", rules)
+
+    def test_compiled(self) -> None:
+        """What a block that is not run compiles has its files and headers."""
+        if not shutil.which("cc"):
+            self.skipTest("no cc")
+        for block in blocks():
+            for words in re.findall(r"\bcc ([^;&\n]+)", block.text if block.how == "not run" else ""):
+                with self.subTest(block.place):
+                    self.assertEqual(shared.run(["sh", "-c", f"cc -fsyntax-only {words}"], folder=shared.ROOT)[0], 0)
+
+
+@functools.lru_cache(None)
+def words_of_kit() -> set[str]:
+    """The words of rt's help: its commands and options among them."""
+    _, output, error = shared.run(["rt", "--help"])
+    return set(re.findall(r"--[a-z-]+|[a-z-]+", (output + error).decode()))
 
 
 @functools.lru_cache(None)
