@@ -115,7 +115,7 @@ impl<'t, K: Recording> Receiver<'t, K> {
 
     /// The receiver over a link that goes on from a record which was kept elsewhere. `stores` has what was received of each
     /// code block. `take` then is right for every list of receptions that has this record. Any stores of this many positions
-    /// will do. What they tell is learned code block by code block, at once, so this costs the peelers' visits and no more.
+    /// will do. No clause says what this costs: the body learns what they tell at once, code block by code block.
     ///
     /// # Errors
     ///
@@ -150,8 +150,8 @@ impl<'t, K: Recording> Receiver<'t, K> {
     /// all that was received so far. This is true for every list of receptions that has this record. A
     /// transport block is delivered only if it explains all that arrived, and no other one does. When every position
     /// below K' is known for the first time, that block is encoded. From then on each call compares its codewords with
-    /// all that was received. So it costs its G places, the peelers' visits, and a copy of the block. A peeler counts
-    /// at most three operations a visit and one for each row block.
+    /// all that was received. So it costs its G places, the peelers' visits, and a copy of the block, though clauses bound
+    /// the visits alone (`IsPeeled`). A peeler counts at most three operations a visit and one for each row block.
     ///
     /// # Errors
     ///

@@ -162,8 +162,8 @@ impl<'t, K: Recording> Peeler<'t, K> {
         })
     }
 
-    /// Becomes equal to another peeler of the same code, and keeps its own memory. No row is swept, so this costs less than
-    /// `start` and what the other one was given since. If no steps are recorded it takes no memory.
+    /// Becomes equal to another peeler of the same code, and keeps its own memory. No clause says what this costs: the body
+    /// sweeps no row, and takes no memory if no steps are recorded.
     ///
     /// # Errors
     ///
@@ -243,8 +243,8 @@ impl<'t, K: Recording> Peeler<'t, K> {
         (word, count as u32)
     }
 
-    /// How many positions below K' aren't known. They are counted at the end of each call that gives positions, so this
-    /// takes the same time however long the code block is.
+    /// How many positions below K' aren't known. No clause says how long this takes: they are counted at the end of each
+    /// call that gives positions.
     pub fn left(&self) -> u32
         ensures value { result ≡ left_of self.now.numbers.kdash self.now.known }
         ensures peeled { IsPeeled self.now }

@@ -11,7 +11,7 @@ use std::alloc::AllocError;
 
 impl<'t, K: Recording> Receiver<'t, K> {
     /// This receiver, which has now received what another one over its link has, and nothing else. It goes on with its own
-    /// peelers and lists. So it costs less than `over`, which takes their memory and sweeps the parity rows.
+    /// peelers and lists. No clause says what that costs; `over` takes their memory and sweeps the parity rows.
     ///
     /// # Errors
     ///
