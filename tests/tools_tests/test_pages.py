@@ -40,6 +40,8 @@ OF_PAGE = re.compile(r"(?m)^<!-- (sh|python|console) blocks (run by) ([^:>]+): (
 SAID = re.compile(r"(?s)\A(?:(?!\n#|```).)*?\n```\n(.*?)```")
 # What a command line names of the repository. A name with a capital letter or a star is a place for the reader's own.
 OURS = re.compile(r"(?<![\w/$.~-])(?:\./)?((?:tools|tests|bench|packaging|gate|examples|c|docs|crates|\.ci)/[a-z0-9_./-]+[a-z0-9_])(?![\w*{<])")
+# The same in a clone beside the reader's own repository.
+CLONE = re.compile(r"(?<![\w/.-])linksim/([A-Za-z0-9_./-]*[A-Za-z0-9])(?![\w*])")
 TOOL = re.compile(r"(?<![\w/-])tools/([a-z-]+)(?![\w/.-])((?: +[a-z][a-z-]*(?=\s|$))*)")
 OPTION = re.compile(r"(?<![\w:-])(--[a-z][a-z0-9-]*)(?:[ =]([a-z]+)\b)?")
 SCRIPT = re.compile(r"(?<![\w/-])((?:bench|gate|packaging|tests)/[a-z-]+)(?![\w./-])")
@@ -122,7 +124,7 @@ class Marks(unittest.TestCase):
 
     def test_files_are_there(self) -> None:
         """Those that blocks name, and sentences between the marks of code."""
-        named = {(block.place, name) for block in blocks() for name in OURS.findall(block.text)}
+        named = {(block.place, name) for block in blocks() for name in OURS.findall(block.text) + CLONE.findall(block.text)}
         for page in pages():
             named |= {(page.name, name) for code in sentences_code(page) for name in OURS.findall(code)}
         for place, name in sorted(named):
@@ -148,7 +150,7 @@ class Marks(unittest.TestCase):
             said = help_of(name)
             subcommands = [it for it in words.split() if it in re.split(r"[{},\s]+", said)]
             first = re.match(r" +([a-z]+)", words)
-            if first and re.search(r"\{[a-z-]+(,[a-z-]+)+\}", said):
+            if first and re.search(r"\bCOMMAND\b|\{[a-z-]+(,[a-z-]+)+\}", said):
                 self.assertIn(first[1], subcommands)
             said = help_of(name, *subcommands)
             for option, value in OPTION.findall(line.partition(f"tools/{name}")[2].partition(" -- ")[0]):
@@ -162,7 +164,7 @@ class Marks(unittest.TestCase):
             text = (shared.ROOT / script).read_text() + (shared.ROOT / "tests" / "outcome.py").read_text()
             for option, _ in OPTION.findall(line.partition(script)[2].partition(" -- ")[0]):
                 self.assertIn(option, text)
-        for words in re.findall(r"(?:^|[$(] ?)rt ([a-z][^#]*)", line) if shutil.which("rt") else []:
+        for words in re.findall(r"(?:^|[$(])\s*rt ([a-z][^#]*)", line) if shutil.which("rt") else []:
             self.assertEqual(set(re.findall(r"^[a-z-]+|--[a-z-]+", words.partition(" -- ")[0])) - words_of_kit(), set())
         made = re.match(r"(?:\$ )?make( -C c)?((?: [a-z-]+)*)((?: [A-Z].*)?)$", line.partition("#")[0].rstrip())
         if made:
