@@ -89,6 +89,7 @@ class Rates(unittest.TestCase):
         cases: list[tuple[dict[str, typing.Any], type[Exception], str]] = [
             ({"p": 1.5}, ValueError, "probability"), ({"p": []}, ValueError, "a point at least"), ({"errors": 0}, ValueError, "1 at least"),
             ({"rounds": 2.5}, TypeError, "rounds is 2.5"), ({"rate2048": 0}, nr.Fault, "RateRange"),
+            ({"p": "0.2"}, TypeError, "p is '0.2'"), ({"jobs": 0}, ValueError, "jobs is 0"), ({"jobs": "2"}, TypeError, "jobs"),
         ]
         for more, kind, said in cases:
             with self.assertRaisesRegex(kind, said):

@@ -1,9 +1,11 @@
-"""The example's curve is the same to the octet by whatever makes it, however many at a time, and after an interruption."""
+"""The example's curve is the same to the octet by whatever makes it, however many at a time, and after KILLS (2) kills of a run."""
 
 from __future__ import annotations
 
 import os
+import random
 import re
+import time
 import typing
 
 import dask_here
@@ -11,6 +13,9 @@ import hosts_here
 import shared
 import slurm_here
 from running import Running, kill, skip_without
+
+# How often a run is killed, before so many chunks are there.
+KILLS, BEFORE = int(os.environ.get("KILLS", "2")), 40
 
 # So many rounds a chunk, and so wide an interval, are enough to plan waves of several sizes.
 SMALLER = {"rounds": "200", "chunks": "1000", "width": "0.5", "lowest": "1e-2", "wave": "16"}
@@ -24,10 +29,16 @@ class Same(Running):
             text = re.sub(rf"(?m)^{key} = .*\n|\Z", "", text, count=1) + f"{key} = {value}\n"
         self.conf = self.file("c.toml", text)
 
-    def made(self, *words: object, environment: typing.Mapping[str, str] | None = None, kill_at: int = 0) -> bytes:
-        """The file of a run; of one that is killed as soon as there are so many chunks, and begun again."""
-        if kill_at:
-            with self.begun(kill_at, *words, environment=environment) as child:
+    def made(self, *words: object, environment: typing.Mapping[str, str] | None = None, kills: int = 0) -> bytes:
+        """The file of a run; of one that is killed so often at drawn moments, sometimes after a process of it, and begun again."""
+        drawn = random.Random(f"{words[:2]} {kills}")
+        for lines in sorted(drawn.sample(range(BEFORE), kills)):
+            with self.begun(lines, *words, environment=environment) as child:
+                time.sleep(0.3 * drawn.random())
+                below = slurm_here.steps_below(child.pid)
+                if below and drawn.random() < 0.5:
+                    kill(drawn.choice(below))
+                    time.sleep(0.3 * drawn.random())
                 kill(child.pid)
         status, said = self.told(*words, environment=environment)
         self.assertEqual(status, 0, said)
@@ -37,16 +48,15 @@ class Same(Running):
 
     def test_engines(self) -> None:
         wanted = self.made("--jobs", 1)
-        self.assertGreater(wanted.count(b"\n"), 40)
-        self.assertEqual(self.made("--jobs", 3, kill_at=20), wanted)
+        self.assertGreater(wanted.count(b"\n"), BEFORE)
+        self.assertEqual(self.made("--jobs", 3, kills=KILLS), wanted)
         engines = (slurm_here.PROGRAMS, self.slurm), (hosts_here.PROGRAMS, self.ssh), (dask_here.PROGRAMS, self.dask)
         for programs, start in engines:
             with self.subTest(start.__name__):
                 skip_without(programs)
                 started, environment, words = start()
                 try:
-                    kill_at = 20 if start == self.slurm else 0
-                    self.assertEqual(self.made(*words, environment=environment, kill_at=kill_at), wanted)
+                    self.assertEqual(self.made(*words, environment=environment, kills=KILLS), wanted)
                 finally:
                     started.close()
 

@@ -35,6 +35,14 @@ def changed(entries: shared.Entries, place: tuple[int, int], index: int, value: 
     return {**entries, place: row}
 
 
+def operations(text: str, entries: shared.Entries) -> list[str]:
+    """The files of test-bbdev of the code blocks of a case."""
+    case = plain.case_of(text.split())
+    values = Chain(code.TablesKey(code.entries_of(shared.table_text({2: entries}))), case, right()).values()
+    one: typing.Any = types.SimpleNamespace(case=case, values=values)
+    return ["\n".join(bbdev.lines(one, r)) for r in range(values.plan.c)]
+
+
 class Confirm(shared.InFolder):
     """The table of base graph 2, whose set 6 has the lifting sizes 208, 104, 52 and 26."""
 
@@ -93,19 +101,12 @@ class Confirm(shared.InFolder):
         text = " ".join([*names, f"{int(c, 2):0{len(c) // 4}x}", "d", f"{int(d, 2):0{len(d) // 4}X}"])
         self.assertEqual(self.report(self.entries, text), self.report(self.entries, line(2, 208, self.entries)))
 
-    def operations(self, text: str) -> list[str]:
-        """The files of test-bbdev of the code blocks of a case."""
-        case = plain.case_of(text.split())
-        values = Chain(code.TablesKey(code.entries_of(shared.table_text({2: self.entries}))), case, right()).values()
-        one: typing.Any = types.SimpleNamespace(case=case, values=values)
-        return ["\n".join(bbdev.lines(one, r)) for r in range(values.plan.c)]
-
     def test_bbdev(self) -> None:
         """All that is sent is taken: of each redundancy version, interleaved, of a limited buffer, around fillers."""
         drawn, texts = random.Random(7), []
         for octets, numbers in ((258, "rv 0 g 10400 qm 1"), (258, "lbrm 7000 rv 1 g 9000 qm 2"), (250, "rv 3 g 10800 qm 6"),
                                 (258, "rv 2 g 3000 qm 8")):
-            texts += self.operations(f"id a rate2048 512 {numbers} a {drawn.randbytes(octets).hex()}")
+            texts += operations(f"id a rate2048 512 {numbers} a {drawn.randbytes(octets).hex()}", self.entries)
         self.assertRegex(self.report(self.entries, *texts)[-1], "confirmed: 153 of 1,224 .* contradicted: 0$")
         few = self.report(self.entries, texts[3].replace("=\n", " = # a remark\n"))
         self.assertRegex(few[0], r"^graph 2 set 6 modulo 208: [1-9][0-9]? of 153 ")
@@ -115,7 +116,7 @@ class Confirm(shared.InFolder):
 
     def test_bbdev_of_a_transport_block(self) -> None:
         """Code blocks in one file: the bits of all of them, which get their CRC24B, and E of the first and of the others."""
-        one, two = self.operations(f"id a rate2048 512 rv 0 g 20832 qm 2 a {random.Random(8).randbytes(479).hex()}")
+        one, two = operations(f"id a rate2048 512 rv 0 g 20832 qm 2 a {random.Random(8).randbytes(479).hex()}", self.entries)
         keys = [dict(part.split(" =\n", 1) for part in text.strip().split("\n\n")) for text in (one, two)]
         both = {**keys[0], **{name: f"{keys[0][name]}, {keys[1][name]}" for name in ("input0", "output0")}}
         both.update({"code_block_mode": "0", "c": "2", "cab": "1", "ea": keys[0]["e"], "eb": keys[1]["e"]})
@@ -132,7 +133,7 @@ class Confirm(shared.InFolder):
         ):
             with self.subTest(said), self.assertRaisesRegex(Failed, f"^{self.folder}/0.data.*: .*{said}"):
                 self.report(self.entries, text)
-        good, = self.operations("id a rate2048 512 rv 0 g 10400 qm 1 a " + "5a" * 258)
+        good, = operations("id a rate2048 512 rv 0 g 10400 qm 1 a " + "5a" * 258, self.entries)
         for old, new, said in (
             ("z_c =\n208", "z_c =\n209", "z_c is 209"), ("z_c", "zc", "z_c is not there"), ("n_cb =\n", "n_cb =\n9", "is 910400"),
             ("\ne =\n1", "\ne =\n2", "output0 has fewer bits"), ("input0 =\n0x", "input0 =\n0xg", "input0 is no list of words"),

@@ -4,7 +4,6 @@ from __future__ import annotations
 
 import concurrent.futures
 import itertools
-import os
 import pathlib
 import typing
 
@@ -17,7 +16,7 @@ from linksim_tools.curve.setting import Setting
 from linksim_tools.curve.simulating import Simulator
 from nr import Table, Tx
 from nr._arrays import numpy_or_none
-from nr._values import Count, Limit, Rate, Rate1024, Rate2048, number, settings, threshold_of
+from nr._values import Count, Limit, Rate, Rate1024, Rate2048, number, settings, threads_of, threshold_of
 
 if typing.TYPE_CHECKING:
     import numpy
@@ -81,13 +80,14 @@ def bler(
     numpy = numpy_or_none()
     if numpy is None:
         raise ImportError("nr.bler needs numpy")
-    points = [float(it) for it in numpy.atleast_1d(numpy.asarray(p, dtype=float)).ravel()]
+    given = numpy.atleast_1d(numpy.asarray(p)).ravel().tolist()
+    points = [float(it) for it in given if threshold_of(it) >= 0]
     sent = [txs] if isinstance(txs, Tx) else list(txs)
     whole = {"a": a, "rounds": rounds, "errors": errors, "chunks": chunks}
     setting = _setting_of(points, sent, settings(rate2048, rate1024, rate, lbrm), number("seed", seed, 2**64 - 1), whole)
     kdash = nr.plan(setting.a, rate2048=setting.rate2048).kdash
     shape = Shape(kdash, tuple(nr.lengths(setting.a, sent[0], rate2048=setting.rate2048)))
-    lines = _lines_of(setting, shape, table, jobs or len(os.sched_getaffinity(0)), progress)
+    lines = _lines_of(setting, shape, table, threads_of(jobs), progress)
     pool = Pool(setting, shape, lines, numpy)
     found = [[pool.at(point, after) for after in range(1, len(sent) + 1)] for point in points]
     columns, worth = ([[[getattr(one, name) for one in row] for row in found] for name in names] for names in (COLUMNS, WORTH))
@@ -102,8 +102,6 @@ def _setting_of(
     """What the tools are asked for."""
     if not txs or any(tx._replace(rv=0) != txs[0]._replace(rv=0) or tx.blocks is not None for tx in txs):
         raise ValueError("txs are one transmission or several that differ in rv alone, and send all code blocks")
-    for point in points:
-        threshold_of(point)
     whole = {name: number(name, it) for name, it in counts.items()}
     if not points or not min(whole.values()):
         raise ValueError("p has a point at least, and a, rounds, errors and chunks are 1 at least")

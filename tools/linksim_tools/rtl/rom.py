@@ -6,6 +6,7 @@ import dataclasses
 import typing
 
 from linksim_tools.common.graphs import GRAPHS, SETS
+from linksim_tools.common.message import shown
 from linksim_tools.common.program import Failed, Wrong
 from linksim_tools.conform.case import Row, Tables
 from linksim_tools.conform.clauses import SETS as SETS_OF_SIZES
@@ -33,12 +34,12 @@ def words_of(rows: list[Row], index: int, z: int | None) -> list[int]:
     ]
 
 
-def sections(tables: Tables, sizes: list[int]) -> list[Section]:
+def sections(name: str, tables: Tables, sizes: list[int]) -> list[Section]:
     """A section for each base graph and set index; or, with lifting sizes, for each base graph and one of these."""
     found = []
     most = max(value for rows in tables.values() for row in rows for _, values in row for value in values)
     if not sizes and most >> COLUMN:
-        raise Failed(f"the table has the value {most}, and a word has {COLUMN} bits for it: use --z to reduce it")
+        raise Failed(f"{name} has the value {shown(most)}, and a word has {COLUMN} bits for it: use --z to reduce it")
     for z in sizes:
         if z not in SETS_OF_SIZES:
             raise Wrong(f"--z: {z} is not a lifting size of Table 5.3.2-1")
@@ -56,9 +57,9 @@ def depth_of(parts: list[Section]) -> int:
     return max(LEAST_DEPTH, 1 << (most - 1).bit_length())
 
 
-def lines(form: str, tables: Tables, sizes: list[int]) -> typing.Iterator[str]:
-    """The file: sections of equal length, one after the other."""
-    parts = sections(tables, sizes)
+def lines(form: str, name: str, tables: Tables, sizes: list[int]) -> typing.Iterator[str]:
+    """The file: sections of equal length, one after the other, of the tables of the file of this name."""
+    parts = sections(name, tables, sizes)
     depth = depth_of(parts)
     words = [word for part in parts for word in part.words + [PAD] * (depth - len(part.words))]
     remark = {"mem": "//", "coe": ";", "mif": "--"}[form]

@@ -132,7 +132,7 @@ def write_rom(given: argparse.Namespace) -> None:
         tables = code.tables_of(path, json_line(path, number, first).get("table"))
     else:
         tables = entries_of(path)
-    write(rom.lines(given.form, tables, given.z), given.out)
+    write(rom.lines(given.form, path, tables, given.z), given.out)
 
 
 def main() -> int | None:
