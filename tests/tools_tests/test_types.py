@@ -18,7 +18,7 @@ SHIPPED = [
 # Their tests and the program's, and the other scripts, which Python 3.9 runs: two lists, since some names stand in both.
 SUITES = ("rtl", "engines", "c-library", "packages", "tools")
 SCRIPTS = (
-    "curve-coverage", "generated", "needs", "quick", "refused-growths", "with-table",
+    "curve-coverage", "fuzz-readers", "generated", "needs", "quick", "refused-growths", "with-table",
 )
 GATE = ("believed-words", "dropped-clauses", "prices", "times", "wrong-bodies")
 TESTS = [

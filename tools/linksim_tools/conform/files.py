@@ -87,7 +87,8 @@ def made_by(path: str | pathlib.Path, program: pathlib.Path | None = None) -> di
 def head_of(path: str | pathlib.Path, numbered: tuple[int, str], kind: str, wanted: typing.AbstractSet[str]) -> Object:
     """The head of a suite of a kind, of its first line with its number. It has its format under the kind, and what is wanted."""
     head = json_line(path, *numbered) if numbered[1] else {}
-    if head.get(kind) == FORMAT and wanted <= head.keys() and isinstance(head.get("made", {}), dict):
+    of_kinds = isinstance(head.get("made", {}), dict) and isinstance(head.get("seed"), (int, type(None)))
+    if head.get(kind) == FORMAT and wanted <= head.keys() and of_kinds:
         return head
     whose, made = KINDS[kind]
     others = [f"; it is a suite{it}" for name, (it, _) in KINDS.items() if name in head and name != kind]

@@ -95,4 +95,4 @@ def read(path: str | pathlib.Path) -> Suite:
     """A suite file."""
     head, tables, cases = files.suite_of(path, "receiver", {"profile", "seed", "made"}, case_of)
     made = {str(name): str(value) for name, value in head["made"].items()}
-    return Suite(str(path), str(head["profile"]), int(head["seed"]), made, steps.Tables(tables), cases)
+    return Suite(str(path), str(head["profile"]), int(head["seed"] or 0), made, steps.Tables(tables), cases)
