@@ -57,7 +57,7 @@ class Rates(unittest.TestCase):
             rows = [[found.p[row], float(column + 1), *(float(f"{it[row, column]:.4g}") for it in found[1:6]),
                      float(f"{found.events[row, column]:.1f}"), float(f"{found.rounds_worth[row, column]:.4g}")]
                     for row in range(len(POINTS)) for column in range(2)]
-            # (as text, in which what is no number is the same)
+            # (as text, in which what is not a number is the same)
             self.assertEqual(str(rows), str(wanted))
         self.assertGreater(len({str(row[2:]) for row in wanted}), 4)
         self.assertIn("95 % interval", repr(found))

@@ -136,7 +136,7 @@ class Right(Checked):
         self.assertEqual(status, 1)
         self.assertEqual(self.numbers("concatenation", lines), [1, 0, len(conform_shared.FEW) - 1])
         self.assertRegex(lines[-2], r"line 1: not JSON: .*: '[{]1[}]'$")
-        self.assertRegex(lines[-1], r"line 3: case kb-640: sent is no list of 0, 1 and, for a filler, null$")
+        self.assertRegex(lines[-1], r"line 3: case kb-640: sent is not a list of 0, 1 and, for a filler, null$")
 
     def test_required(self) -> None:
         right = conform_shared.suite().values
@@ -269,7 +269,7 @@ class Unjudged(Checked):
         self.refused("no id: '{\"id\": 3}'", '{"id": 3}')
         self.refused("the suite has no case kb-9", '{"id": "kb-9"}')
         self.refused("case kb-560 was answered before", '{"id": "kb-560"}', "", '{"id": "kb-560"}')
-        self.refused("case kb-560: a name that is none: bit", '{"id": "kb-560", "bit": 1}')
+        self.refused("case kb-560: unknown name: bit", '{"id": "kb-560", "bit": 1}')
 
     def test_a_long_line(self) -> None:
         most = conform_shared.lines()
@@ -293,16 +293,16 @@ class Unjudged(Checked):
             "attached says 24 bits, and its hex has 20": {"attached": {"count": 24, "hex": "01102"}},
             "attached has other characters than hexadecimal digits": {"attached": {"count": 24, "hex": "0x1102"}},
             "sent has other characters than 0, 1 and, for a filler, -": {"sent": "0102"},
-            "sent is no list of 0, 1 and, for a filler, null": {"sent": [0, 2]},
-            "e is no list of octets": {"e": {"count": 8, "octets": [256]}},
-            "e of code block 1 is no list of words such as 0x0a1b2c3d": {"e": ["", {"count": 8, "le32": ["0a"]}]},
-            "k0 is no whole number": {"k0": "0"},
-            "E is no whole number": {"E": [1.5]},
+            "sent is not a list of 0, 1 and, for a filler, null": {"sent": [0, 2]},
+            "e is not a list of octets": {"e": {"count": 8, "octets": [256]}},
+            "e of code block 1 is not a list of words such as 0x0a1b2c3d": {"e": ["", {"count": 8, "le32": ["0a"]}]},
+            "k0 is not a whole number": {"k0": "0"},
+            "E is not a whole number": {"E": [1.5]},
             "k0 is not the same in all code blocks": {"k0": [0, 1]},
-            "plan.z is no whole number": {"plan": {"z": None}},
-            "codeblocks is no list of objects": {"codeblocks": {}},
+            "plan.z is not a whole number": {"plan": {"z": None}},
+            "codeblocks is not a list of objects": {"codeblocks": {}},
             "codeblocks is not in the order r = 0, 1, ..": {"codeblocks": [{"r": 1}]},
-            "codeblocks has a name that is none: x": {"codeblocks": [{"r": 0, "x": 1}]},
+            "codeblocks has an unknown name: x": {"codeblocks": [{"r": 0, "x": 1}]},
             "codeblocks has d for some code blocks alone": {"codeblocks": [{"d": [0]}, {}]},
         }.items():
             with self.subTest(said):
@@ -310,18 +310,18 @@ class Unjudged(Checked):
                     "case kb-560: " + said, json.dumps({"id": "kb-560", **typing.cast(typing.Dict[str, object], value)})
                 )
         forms = ", ".join(f'"{name}"' for name in bits.READERS)
-        said = f'case kb-560: f is no object of "count" and one of {forms}'
+        said = f'case kb-560: f is not an object of "count" and one of {forms}'
         self.refused(said, '{"id": "kb-560", "f": {"hex": "00"}}')
         said = "case kb-560: plan has other names than a, b, graph, c, l, kdash, kb, z, set, k, n"
         self.refused(said, '{"id": "kb-560", "plan": 3}')
 
     def test_plain(self) -> None:
         self.refused("an odd number of words: each name has one value: 'id kb-560 k0'", "id kb-560 k0", plain=True)
-        self.refused("k0 is no whole number: -1: 'id kb-560 k0 -1'", "id kb-560 k0 -1", plain=True)
-        self.refused("k0 stands there twice: 'id kb-560 k0 1 k0 1'", "id kb-560 k0 1 k0 1", plain=True)
+        self.refused("k0 is not a whole number: -1: 'id kb-560 k0 -1'", "id kb-560 k0 -1", plain=True)
+        self.refused("k0 occurs twice: 'id kb-560 k0 1 k0 1'", "id kb-560 k0 1 k0 1", plain=True)
         said = "case kb-560: sent has other characters than 0, 1 and, for a filler, -"
         self.refused(said, "id kb-560 sent 0a", plain=True)
-        self.refused("case kb-560: a name that is none: rv", "id kb-560 rv 0", plain=True)
+        self.refused("case kb-560: unknown name: rv", "id kb-560 rv 0", plain=True)
         self.refused("no id: '{\"id\": \"kb-560\"}'", '{"id": "kb-560"}', plain=True)
 
     def test_files(self) -> None:

@@ -163,13 +163,13 @@ class Own(shared.InFolder):
         good = "id one rate2048 1024 g 600 a 01"
         for said, line in {
             "an odd number of words: each name has one value": "id one rate2048",
-            "a name that is none: size": good + " size 1",
+            "unknown name: size": good + " size 1",
             "g is not there": "id one rate2048 1024 a 01",
-            "rv is no number from 0 to 3: 4": good + " rv 4",
-            "a is no hexadecimal digits of whole octets, at most 163840": "id one rate2048 1024 g 600 a 012",
+            "rv is not a number from 0 to 3: 4": good + " rv 4",
+            "a is not hexadecimal digits of whole octets, at most 163840": "id one rate2048 1024 g 600 a 012",
             "mask is not `all`, and no digits 0 and 1 with a 1: 000": good + " mask 000",
             "no code block is scheduled": good + " mask 01",
-            "rv stands there twice": good + " rv 1 rv 1",
+            "rv occurs twice": good + " rv 1 rv 1",
             "a block of 16856 bits cannot be cut; tools/vectors near names sizes that can": good + "00" * 2106,
         }.items():
             with self.subTest(said):
@@ -195,13 +195,13 @@ class Refused(shared.InFolder):
         self.refused("line 1: not JSON", "suite\n")
         self.refused("is not a suite for encoders: its first line", case + "\n")
         self.refused("is not a suite for encoders: its first line", json.dumps(json.loads(head) | {"made": 7}) + "\n")
-        self.refused("line 2: no JSON object", head + "\n[]\n")
-        self.refused("line 2: no case of a suite: 'transmission'", head + '\n{"id": "x"}\n')
+        self.refused("line 2: not a JSON object", head + "\n[]\n")
+        self.refused("line 2: not a case of a suite: 'transmission'", head + '\n{"id": "x"}\n')
         endless = json.dumps(json.loads(case) | {"rate2048": float("inf")})
-        self.refused("line 2: no case of a suite: cannot convert float infinity to integer", f"{head}\n{endless}\n")
+        self.refused("line 2: not a case of a suite: cannot convert float infinity to integer", f"{head}\n{endless}\n")
         changed = json.loads(case) | {"plan": {"a": 8}}
-        self.refused("line 2: no case of a suite: 'b'", f"{head}\n{json.dumps(changed)}\n")
-        self.refused("no whole suite: it has 1 cases of", head + "\n" + case + "\n")
+        self.refused("line 2: not a case of a suite: 'b'", f"{head}\n{json.dumps(changed)}\n")
+        self.refused("is not a complete suite: it has 1 cases of", head + "\n" + case + "\n")
         for table in (3, [], [[2, 0, 0]], json.loads(head)["table"][1:300], [[3] + [0] * 10]):
             self.refused("has no table", json.dumps(json.loads(head) | {"table": table}) + "\n")
 

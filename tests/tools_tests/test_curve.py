@@ -92,7 +92,7 @@ class Chunks(Conf):
 
     def test_words_that_name_no_chunk(self) -> None:
         for words in ("", "0.2", "0.2 7-4", "0.2 5-", "0.2:1-2-3"):
-            with self.subTest(words), self.assertRaisesRegex(Wrong, "is no probability with chunks"):
+            with self.subTest(words), self.assertRaisesRegex(Wrong, "is not a probability with chunks"):
                 tasks.tasks_from(words.split())
 
     def test_long_chunks_take_several_schedules(self) -> None:

@@ -170,7 +170,7 @@ class Files(shared.InFolder):
 
     def test_a_rate_that_is_a_fraction(self) -> None:
         blocks = self.file("b.txt", "01\n")
-        for rate, hint in (("0.5", "0.5 is 1024"), ("0.3", "0.3 is no whole number of these: 614.40"), ("1/4", "1/4 is 512")):
+        for rate, hint in (("0.5", "0.5 is 1024"), ("0.3", "0.3 is not a whole number of these: 614.40"), ("1/4", "1/4 is 512")):
             status, output, error = shared.tool("explain", "cut", "--rate", rate, "--blocks", blocks)
             self.assertEqual((status, error), (2, ""))
             self.assertIn(f"  the rate is a number of 2048ths; {hint}\n", output)

@@ -178,7 +178,7 @@ class Folders(shared.InFolder):
         self.refused(1, "/nowhere cannot be read", "--count=1", "--out", place, table="/nowhere")
         self.refused(1, "table Fields", "--count=1", "--out", place, table=self.file("none.csv", "1,2\n3\n"))
         for status, wrong, said in (
-            (1, line.replace("g 24", "g x"), "line 1: g is no number"), (1, line.replace(" a 01", ""), "line 1: a is not there"),
+            (1, line.replace("g 24", "g x"), "line 1: g is not a number"), (1, line.replace(" a 01", ""), "line 1: a is not there"),
             (1, line * 2, "line 2: a case before it is x too"), (1, "", "has no case"),
             (1, line.replace("id x", "id ../x"), "../x: an id that names a file may have only letters"),
             (1, line.replace("g 24", "g 23").replace("qm 1", "qm 2"), "case x: the library rejects it: Ragged"),

@@ -310,8 +310,8 @@ class Checked(Run):
         head, *cases = receiver_shared.few_path().read_text().splitlines()
         path = self.file("short.jsonl", "\n".join([head, *cases[1:]]))
         said = conform_shared.refused("receiver", "points", path)
-        self.assertEqual(said, f"{path} is no whole suite: it has 5 cases of 6")
+        self.assertEqual(said, f"{path} is not a complete suite: it has 5 cases of 6")
 
     def test_levels(self) -> None:
         said = conform_shared.refused("receiver", "plain", receiver_shared.few_path(), "--level", "200")
-        self.assertEqual(said, "--level 200 is no value of --bits 8: the largest is 127")
+        self.assertEqual(said, "--level 200 is not a value of --bits 8: the largest is 127")

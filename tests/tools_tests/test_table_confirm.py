@@ -136,7 +136,7 @@ class Confirm(shared.InFolder):
         good, = operations("id a rate2048 512 rv 0 g 10400 qm 1 a " + "5a" * 258, self.entries)
         for old, new, said in (
             ("z_c =\n208", "z_c =\n209", "z_c is 209"), ("z_c", "zc", "z_c is not there"), ("n_cb =\n", "n_cb =\n9", "is 910400"),
-            ("\ne =\n1", "\ne =\n2", "output0 has fewer bits"), ("input0 =\n0x", "input0 =\n0xg", "input0 is no list of words"),
+            ("\ne =\n1", "\ne =\n2", "output0 has fewer bits"), ("input0 =\n0x", "input0 =\n0xg", "input0 is not a list of words"),
             ("n_filler =\n0", "n_filler =\n1700", "n_filler is 1700"), ("input0", "input1", "fewer bits than the code blocks"),
             ("LDPC_RATE_MATCH", "LDPC_X", "with RTE_BBDEV_LDPC_RATE_MATCH"),
         ):

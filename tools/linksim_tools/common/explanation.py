@@ -77,7 +77,7 @@ def of_rate(rate: str) -> typing.List[str]:
     if not 0 < value < 1:
         return []
     doubled = value * 2048
-    whole = f"{rate} is {doubled}" if doubled.denominator == 1 else f"{rate} is no whole number of these: {float(doubled):.2f}"
+    whole = f"{rate} is {doubled}" if doubled.denominator == 1 else f"{rate} is not a whole number of these: {float(doubled):.2f}"
     return [f"  the rate is a number of 2048ths; {whole}"]
 
 

@@ -47,7 +47,7 @@ def object_of(line: bytes, from_words: typing.Callable[[list[str]], Object] | No
     try:
         value = from_words(text.split()) if from_words else json.loads(text)
         if not isinstance(value, dict):
-            raise Wrong("no JSON object")
+            raise Wrong("not a JSON object")
         if not isinstance(value.get("id"), str):
             raise Wrong("no id")
     except (ValueError, RecursionError) as error:
@@ -59,13 +59,13 @@ def object_of(line: bytes, from_words: typing.Callable[[list[str]], Object] | No
 
 
 def pairs_of(words: list[str]) -> list[tuple[str, str]]:
-    """Plain words in pairs, a name and its value; no name stands there twice."""
+    """Plain words in pairs, a name and its value; no name occurs twice."""
     if len(words) % 2:
         raise Wrong("an odd number of words: each name has one value")
     names = words[::2]
     twice = next((name for place, name in enumerate(names) if name in names[:place]), None)
     if twice is not None:
-        raise Wrong(f"{message.shown(twice)} stands there twice")
+        raise Wrong(f"{message.shown(twice)} occurs twice")
     return list(zip(names, words[1::2]))
 
 

@@ -94,7 +94,7 @@ def from_hex(value: str) -> str:
 def from_octets(value: int) -> typing.Any:
     """Octets as numbers, the first bit of each highest."""
     if not isinstance(value, list) or not all(type(it) is int and it in range(256) for it in value):
-        raise Unreadable("is no list of octets")
+        raise Unreadable("is not a list of octets")
     return of_octets(bytes(value))
 
 
@@ -106,7 +106,7 @@ def from_lowest_first(value: int) -> typing.Any:
 def from_words(value: int) -> typing.Any:
     """Words of up to four octets as tools/vectors writes them: the first octet lowest, two digits an octet."""
     if not isinstance(value, list) or not all(isinstance(it, str) and WORD.fullmatch(it) for it in value):
-        raise Unreadable("is no list of words such as 0x0a1b2c3d")
+        raise Unreadable("is not a list of words such as 0x0a1b2c3d")
     return of_octets(b"".join(bytes.fromhex(it[2:])[::-1] for it in value))
 
 
@@ -115,7 +115,7 @@ def from_list(value: list[int]) -> str:
     try:
         return "".join([CHARACTERS[it] for it in value])
     except (KeyError, TypeError):
-        raise Unreadable("is no list of 0, 1 and, for a filler, null") from None
+        raise Unreadable("is not a list of 0, 1 and, for a filler, null") from None
 
 
 READERS: dict[str, typing.Callable[[typing.Any], str]] = {
@@ -128,7 +128,7 @@ def from_packed(value: typing.Mapping[str, object]) -> str:
     forms = value.keys() & READERS.keys()
     count = value.get("count")
     if len(forms) != 1 or len(value) != 2 or type(count) is not int or count < 0:
-        raise Unreadable('is no object of "count" and one of ' + ", ".join(f'"{name}"' for name in READERS))
+        raise Unreadable('is not an object of "count" and one of ' + ", ".join(f'"{name}"' for name in READERS))
     form, = forms
     bits = READERS[form](value[form])
     if len(bits) < count:

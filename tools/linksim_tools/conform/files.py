@@ -55,7 +55,7 @@ def json_line(path: str | pathlib.Path, number: int, line: str) -> Object:
     except RecursionError:
         raise Failed(f"{path} line {number}: not JSON that can be read: too deep") from None
     if not isinstance(value, dict):
-        raise Failed(f"{path} line {number}: no JSON object")
+        raise Failed(f"{path} line {number}: not a JSON object")
     return value
 
 
@@ -108,7 +108,7 @@ def suite_of(
         try:
             cases[str(value["id"])] = case_of(value)
         except (LookupError, TypeError, ValueError, ArithmeticError, AttributeError, lists.Unreadable) as error:
-            raise Failed(f"{path} line {number}: no case of a suite: {shown(error, 120)}") from None
+            raise Failed(f"{path} line {number}: not a case of a suite: {shown(error, 120)}") from None
     if len(cases) != head["cases"]:
-        raise Failed(f"{path} is no whole suite: it has {len(cases)} cases of {head['cases']}")
+        raise Failed(f"{path} is not a complete suite: it has {len(cases)} cases of {head['cases']}")
     return head, tables, cases

@@ -49,11 +49,11 @@ def judge_source(call: Call, lines: list[Line], files: list[pathlib.Path], maker
 
 
 def audit(call: Call, engine: Engine, lines: list[Line], share: float, seed: int) -> int:
-    """Makes a drawn share of the chunks anew, at least one, and says which differ; how many do. Another program or library may
-    have made the lines."""
+    """Runs a random share of the chunks again, at least one, reports which differ, and returns how many do. Another program or library
+    may have made the lines."""
     count = max(1, round(share * len(lines)))
     drawn = {line.key(): line for line in random.Random(seed).sample(lines, count)}
-    say(f"{count} of {len(lines)} chunks are made anew, drawn by --seed {seed}")
+    say(f"{count} of {len(lines)} chunks are run again, chosen by --seed {seed}")
     shares = batches([(line.p, line.chunk) for line in drawn.values()], Costs(), engine.longest, engine.slots(), engine.most())
     differ = 0
     with contextlib.closing(engine):

@@ -71,7 +71,7 @@ def do_merge(given: argparse.Namespace) -> int | None:
 
 
 def do_audit(given: argparse.Namespace, setting: settings.Setting, program: pathlib.Path) -> int:
-    """A drawn share of the chunks, made anew; status 1 if one differs."""
+    """Re-runs a random sample of the chunks; status 1 if one differs."""
     from linksim_tools.curve import audit, engines
 
     files = [pathlib.Path(file) for file in given.files] or [setting.path.with_suffix(".csv")]

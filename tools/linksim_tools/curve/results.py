@@ -198,7 +198,7 @@ def results_file(path: pathlib.Path) -> typing.Iterator[io.FileIO]:
     """The file of results, open at its end and for this run alone. If it can only be read, it is open for reading, and fails when
     it is written: a run may have nothing to do."""
     if str(path) == "-" or os.path.exists(path) and not os.path.isfile(path):
-        raise Failed(f"{path} is no regular file: results are kept there, and read again")
+        raise Failed(f"{path} is not a regular file: results are kept there, and read again")
     may_write = not os.path.exists(path) or os.access(path, os.W_OK)
     with open(path, "a+b" if may_write else "rb", buffering=0) as file:
         try:

@@ -76,7 +76,7 @@ def judge_kept(call: Call, path: pathlib.Path, lines: list[Line]) -> None:
     for line in lines:
         if line.source != call.source.text():
             said = two_sources({call.source.text(): f"{call.setting.path} now", line.source: path})
-            raise Failed(f"{said}; to begin anew remove {path}, or name another file by --out")
+            raise Failed(f"{said}; to start again, remove {path}, or name another file by --out")
 
 
 @dataclasses.dataclass

@@ -49,7 +49,7 @@ def tasks_from(words: typing.Sequence[str]) -> list[Task]:
         return [(p, chunk) for word in words[1:] for chunk in chunks_from(word)]
     except (IndexError, ValueError):
         said = " ".join(words) or "an empty line"
-        raise Wrong(f"{said} is no probability with chunks, as 0.27 0 1 4-7, and no 0.27:0-7/0.28:0") from None
+        raise Wrong(f"{said} is not a probability with chunks, as 0.27 0 1 4-7, and no 0.27:0-7/0.28:0") from None
 
 
 def word_of(tasks: typing.Sequence[Task]) -> str:

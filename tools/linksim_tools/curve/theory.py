@@ -45,7 +45,7 @@ def rows_of_table(path: pathlib.Path, graph: int) -> tuple[tuple[int, ...], ...]
     try:
         tables = entries_of(files.text_of(path, files.LIMITS["table"]))
     except ValueError:
-        raise Failed(f"{path}: this is no shift table; linksim check --table {path} says why") from None
+        raise Failed(f"{path}: this is not a shift table; linksim check --table {path} says why") from None
     if graph not in tables:
         raise Failed(f"{path}: the table lacks base graph {graph}")
     return tuple(tuple(column for column, _ in row) for row in tables[graph])

@@ -176,7 +176,7 @@ def options() -> argparse.ArgumentParser:
     curve.add("status", do.do_status, "says how far a run is, also from another machine", "curve.csv", [
         (["file"], {"metavar": "FILE", "type": pathlib.Path, "help": "the file of results"}),
     ])
-    about = "makes a drawn share of the chunks again and compares; status 1 if any differs"
+    about = "re-runs a random sample of the chunks and compares; status 1 if any differs"
     curve.add("audit", do.do_audit, about, "examples/curve.toml curve.csv --share 1%", [
         FILES,
         (["--share"], {"metavar": "SHARE", "type": share_from, "default": 0.01, "help": "how many of them (1%%)"}),

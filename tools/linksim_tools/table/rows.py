@@ -83,7 +83,7 @@ class Place:
         """The entry of these cells, if it suits the row."""
         for cell in (column, *values):
             if not isinstance(cell, int):
-                raise Refusal(self.row, f"{shown(cell)} is no number", 1)
+                raise Refusal(self.row, f"{shown(cell)} is not a number", 1)
         if column <= self.column:
             raise Refusal(self.row, f"column {column} follows column {self.column}", 1)
         last = graph.last_column(self.row)

@@ -36,7 +36,7 @@ def most_octets(suite: Suite) -> int:
 def whole_number(name: str, value: int) -> int:
     """A whole number under a name."""
     if type(value) is not int:
-        raise Wrong(f"{name} is no whole number")
+        raise Wrong(f"{name} is not a whole number")
     return value
 
 
@@ -78,11 +78,11 @@ def one_for_all(name: str, value: int | list[int]) -> int:
 def from_blocks(blocks: list[Object]) -> Object:
     """The names of `codeblocks`, each with the values of all code blocks."""
     if not isinstance(blocks, list) or not all(isinstance(it, dict) for it in blocks) or not blocks:
-        raise Wrong("codeblocks is no list of objects")
+        raise Wrong("codeblocks is not a list of objects")
     known = {"r", *LISTS, "k0", "Ncb", "E"}
     names = {name for it in blocks for name in it}
     if not names <= known:
-        raise Wrong(f"codeblocks has a name that is none: {shown(min(names - known))}")
+        raise Wrong(f"codeblocks has an unknown name: {shown(min(names - known))}")
     if [it.get("r", r) for r, it in enumerate(blocks)] != list(range(len(blocks))):
         raise Wrong("codeblocks is not in the order r = 0, 1, ..")
     lacking = sorted(name for name in names - {"r"} for it in blocks if name not in it)
@@ -101,7 +101,7 @@ def from_object(value: Object) -> Answer:
     """The values of an answer that was JSON."""
     strange = value.keys() - set(NAMES) - set(PASSED_OVER)
     if strange:
-        raise Wrong(f"a name that is none: {shown(min(strange))}")
+        raise Wrong(f"unknown name: {shown(min(strange))}")
     named = {name: it for name, it in value.items() if name in READ}
     if "codeblocks" in value:
         named.update(from_blocks(value["codeblocks"]))
@@ -115,7 +115,7 @@ def digits_of(name: str, text: str) -> list[int]:
     """The whole number of a plain word, or those of all code blocks if the name has several."""
     numbers = text.split(",") if name == "E" else [text]
     if not all(it.isdecimal() and it.isascii() and len(it) < 16 for it in numbers):
-        raise Wrong(f"{name} is no whole number: {shown(text)}")
+        raise Wrong(f"{name} is not a whole number: {shown(text)}")
     return list(map(int, numbers))
 
 

@@ -34,7 +34,7 @@ def number_of(name: str, text: str) -> int:
     """The number of a word."""
     least, most = NUMBERS[name]
     if not (text.isdecimal() and text.isascii() and len(text) < 12 and least <= int(text) <= most):
-        raise ValueError(f"{name} is no number from {least} to {most}: {shown(text)}")
+        raise ValueError(f"{name} is not a number from {least} to {most}: {shown(text)}")
     return int(text)
 
 
@@ -54,15 +54,15 @@ def case_of(words: list[str]) -> Case:
     found = dict(zip(words[::2], words[1::2]))
     for name in words[::2]:
         if name not in NAMES:
-            raise ValueError(f"a name that is none: {shown(name)}")
+            raise ValueError(f"unknown name: {shown(name)}")
         if words[::2].count(name) > 1:
-            raise ValueError(f"{name} stands there twice")
+            raise ValueError(f"{name} occurs twice")
     lacking = [name for name in ("id", "rate2048", "g", "a") if name not in found]
     if lacking:
         raise ValueError(f"{lacking[0]} is not there")
     digits = found["a"]
     if digits.strip("0123456789abcdefABCDEF") or len(digits) % 2 or len(digits) > 2 * MOST_OCTETS:
-        raise ValueError(f"a is no hexadecimal digits of whole octets, at most {MOST_OCTETS}")
+        raise ValueError(f"a is not hexadecimal digits of whole octets, at most {MOST_OCTETS}")
     if not found["id"].isprintable() or len(found["id"]) > MOST_LETTERS:
         raise ValueError(f"id is longer than {MOST_LETTERS} letters, or has one that cannot be printed")
     limit = found.get("lbrm", "-")

@@ -48,7 +48,7 @@ def passed_of(value: typing.Any) -> str:
     if isinstance(value, list) and all(it in (0, 1) for it in value):
         return "".join(str(int(it)) for it in value)
     if not isinstance(value, str) or not value or value.strip("01"):
-        raise Wrong("passed is no digit 0 or 1 for each code block")
+        raise Wrong("passed is not a digit 0 or 1 for each code block")
     return value
 
 
@@ -56,7 +56,7 @@ def texts_of(name: str, value: typing.Any, characters: str) -> tuple[str, ...]:
     """A text for each code block."""
     texts = [value] if isinstance(value, str) else value
     if not isinstance(texts, list) or not texts or not all(isinstance(it, str) for it in texts):
-        raise Wrong(f"{name} is no list of texts, one for each code block")
+        raise Wrong(f"{name} is not a list of texts, one for each code block")
     if any(it.strip(characters) for it in texts):
         raise Wrong(f"{name} has other characters than {' '.join(characters)}")
     return tuple(texts)
@@ -66,7 +66,7 @@ def from_object(value: Object) -> Answer:
     """The answer of an object; without one of the names a case is not supported."""
     strange = value.keys() - set(NAMES) - set(PASSED_OVER)
     if strange:
-        raise Wrong(f"a name that is none: {shown(min(strange))}")
+        raise Wrong(f"unknown name: {shown(min(strange))}")
     if not value.keys() & set(NAMES[2:]):
         return UNSUPPORTED
     if "delivered" not in value:

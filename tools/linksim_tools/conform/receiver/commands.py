@@ -39,7 +39,7 @@ def manner_of(given: argparse.Namespace) -> run.Manner:
     level = dataclasses.replace(level, strong=given.level or min(16, level.largest))
     for strong in (level.strong, *(getattr(given, "levels", None) or ())):
         if strong > level.largest:
-            raise Failed(f"--level {strong} is no value of --bits {level.bits}: the largest is {level.largest}")
+            raise Failed(f"--level {strong} is not a value of --bits {level.bits}: the largest is {level.largest}")
     more = {name: getattr(given, name) for name in ("plain", "seconds", "restart", "skip") if hasattr(given, name)}
     return run.Manner(level, **{"plain": True, **more})
 

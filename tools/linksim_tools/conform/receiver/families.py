@@ -65,7 +65,7 @@ def of_encoders(of: Diagnosis, failing: list[str]) -> typing.Iterator[Mistake]:
     right = {it: numbers_of(of, it, steps.RIGHT) for it in of.suite.cases[failing[0]].case.arrivals}
     for it in itertools.chain(listed, limits.mistakes(trials), numbers.mistakes(), of_tables.rows_lost()):
         hooks = HOOKS & vars(it.made).keys()
-        # What is read round the buffer's end is no number.
+        # What is read round the buffer's end is not a number.
         if hooks and ("ring" in hooks or any(numbers_of(of, told, frozenset([it])) != had for told, had in right.items())):
             yield shared(it)
 

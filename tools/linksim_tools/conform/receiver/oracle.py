@@ -123,7 +123,7 @@ def said(program: pathlib.Path, table: str, rounds: list[list[Record]]) -> list[
 def read(ran: list[str], audited: list[str], counts: list[int]) -> list[Outcome]:
     """The outcomes of the lines of `run` and `audit`; `counts` are the transmissions of each round."""
     if any(line.startswith("refused") for line in ran):
-        raise Failed("the program refuses a transmission of a case: this is a fault of the tool")
+        raise Failed("the program rejects a transmission of a case: this is an error of the tool")
     lefts: list[dict[int, int]] = []
     ends: list[list[str]] = []
     stuck: list[tuple[int, int, int] | None] = []

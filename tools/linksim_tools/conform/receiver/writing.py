@@ -43,7 +43,7 @@ def kept_of(tables: steps.Tables, case: Case, found: apart.Found, proved: list[o
     for answer, outcome in zip(judged.right_answers(tables, case), proved):
         if answer.delivered != outcome.block:
             fault = "this is a fault of the program or of the tool"
-            raise Failed(f"case {case.id}: the model and the program hand up other blocks: {fault}")
+            raise Failed(f"case {case.id}: the model and the program deliver different blocks: {fault}")
         if tuple(info.count("?") for info in answer.info or ()) != outcome.left:
             print(f"the model and the program leave other bits open in {case.id}, which is left out", file=sys.stderr)
             return None
