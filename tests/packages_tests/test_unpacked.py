@@ -3,16 +3,19 @@
 from __future__ import annotations
 
 import json
+import os
 import pathlib
 import re
 import shutil
 import sys
 import tarfile
 import tempfile
+import unittest.mock
 import zipfile
 
 import made
 import nr_version
+import test_pages
 from placed import Placed
 
 NAME = f"linksim-{nr_version.for_archive()}-x86_64-linux"
@@ -65,6 +68,14 @@ class Archive(Placed):
         self.program(self.top / "bin")
         self.tools(self.top / "bin", self.top / "examples")
         self.assertIn(" graph 1 ", made.done(["tools/vectors", "near", "100000"], self.top))
+
+    def test_pages(self) -> None:
+        """The commands of these pages, as they stand there, run from the archive alone."""
+        for name in ("certificates", "formats", "vectors"):
+            of_page = [block._replace(text=block.text.replace("crates/linksim/out", "bin"))
+                       for block in test_pages.blocks() if block.page.stem == name]
+            with unittest.mock.patch.dict(os.environ, made.without_kit(), clear=True):
+                test_pages.follow(self, self.top, of_page, "share/nr")
 
     def test_commit(self) -> None:
         """The commit is that which was packed, and not that of a repository in which the archive was unpacked."""

@@ -202,6 +202,37 @@ def help_of(tool: str, *words: str) -> str:
     return output.decode()
 
 
+def prepare(folder: pathlib.Path, name: str) -> None:
+    """Leaves a file in a folder that a block would make in minutes."""
+    import receiver_shared
+
+    assert name == "receivers.jsonl"
+    shutil.copy(receiver_shared.suite_path(), folder / name)
+
+
+def follow(test: unittest.TestCase, folder: pathlib.Path, of_page: list[Block], modules: str = "c:tools") -> None:
+    """Runs blocks of a page one after the other in one shell, in a folder with the Python modules there, and compares."""
+    commands: list[tuple[Block, str, str | None]] = []
+    for block in of_page:
+        if block.how == "with":
+            prepare(folder, block.what)
+        elif not block.how and block.kind == "console":
+            commands += [(block, command, wanted) for command, wanted in documents.commands(f"```console\n{block.text}```\n")]
+        elif not block.how:
+            script = block.text if block.kind == "sh" else f"PYTHONPATH={modules} python3 -c {shlex.quote(block.text)}"
+            commands.append((block, f"(set -e\n{script}) || echo failed with status $?", block.said))
+    said = documents.answers(folder, [command for _, command, _ in commands])
+    test.assertEqual(len(said), len(commands))
+    for (block, command, wanted), answer in zip(commands, said):
+        with test.subTest(block.place, command=command):
+            missing = documents.words_missing(command)
+            if missing or needs_library(command) and not has_library():
+                test.skipTest(f"{missing[0] if missing else 'the library'} is not there")
+            test.assertNotIn("failed with status", answer)
+            if wanted is not None:
+                test.assertEqual(documents.settled(answer), documents.settled(wanted))
+
+
 class Pages(shared.InFolder):
     """The blocks of each page, one after the other in one shell."""
 
@@ -220,35 +251,7 @@ class Pages(shared.InFolder):
         for page in pages():
             of_page = [block for block in blocks() if block.page == page]
             if any(block.how in ("", "with") for block in of_page):
-                self.check(self.top(page), of_page)
-
-    def check(self, folder: pathlib.Path, of_page: list[Block]) -> None:
-        commands: list[tuple[Block, str, str | None]] = []
-        for block in of_page:
-            if block.how == "with":
-                self.prepare(folder, block.what)
-            elif not block.how and block.kind == "console":
-                commands += [(block, command, wanted) for command, wanted in documents.commands(f"```console\n{block.text}```\n")]
-            elif not block.how:
-                script = block.text if block.kind == "sh" else f"PYTHONPATH=c:tools python3 -c {shlex.quote(block.text)}"
-                commands.append((block, f"(set -e\n{script}) || echo failed with status $?", block.said))
-        said = documents.answers(folder, [command for _, command, _ in commands])
-        self.assertEqual(len(said), len(commands))
-        for (block, command, wanted), answer in zip(commands, said):
-            with self.subTest(block.place, command=command):
-                missing = documents.words_missing(command)
-                if missing or needs_library(command) and not has_library():
-                    self.skipTest(f"{missing[0] if missing else 'the library'} is not there")
-                self.assertNotIn("failed with status", answer)
-                if wanted is not None:
-                    self.assertEqual(documents.settled(answer), documents.settled(wanted))
-
-    def prepare(self, folder: pathlib.Path, name: str) -> None:
-        """Leaves a file in a folder that a block would make in minutes."""
-        import receiver_shared
-
-        self.assertEqual(name, "receivers.jsonl")
-        shutil.copy(receiver_shared.suite_path(), folder / name)
+                follow(self, self.top(page), of_page)
 
 
 @unittest.skipUnless(os.environ.get("WITH_KIT"), "WITH_KIT=1 is not set, as .ci/run sets it")
