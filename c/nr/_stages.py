@@ -113,7 +113,8 @@ def hard(llrs: typing.Any, threshold: typing.SupportsFloat) -> typing.Any:
     if kind == "b":
         raise TypeError(DECIDED)
     if kind == "u":
-        raise TypeError("llrs are unsigned, so that none can stand for a 1: subtract their offset in a signed type first")
+        unsigned = "llrs are unsigned, so that none can stand for a 1: subtract their offset in a signed type first"
+        raise TypeError(DECIDED if set(memoryview(llrs).tobytes()) <= {0, 1} else unsigned)
     if hasattr(llrs, "astype"):
         if kind not in ("i", "f"):
             raise TypeError("llrs are not real numbers")

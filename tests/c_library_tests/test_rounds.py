@@ -90,7 +90,7 @@ class Stages(built.OfModule):
         sent = numpy.frombuffer(bits, numpy.uint8)
         soft = 40.0 - 80 * sent
         for given, said in [
-            (sent, "unsigned"), (sent.astype(bool), "decisions"), (sent.astype(int), "decisions"), (sent.astype(float), "decisions"),
+            (sent, "decisions"), (sent.astype(bool), "decisions"), (sent.astype(int), "decisions"), (sent.astype(float), "decisions"),
             (soft.astype(numpy.uint8), "unsigned"), (numpy.ma.masked_where(sent > 0, soft), r"\.filled\(0\)"),
             (soft.astype(complex), "not real"),
         ]:

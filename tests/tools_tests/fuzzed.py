@@ -69,7 +69,7 @@ def changed_json(drawn: random.Random, text: bytes) -> bytes:
     at = drawn.randrange(len(lines))
     try:
         value = whole = [json.loads(lines[at])]
-    except ValueError:
+    except (ValueError, RecursionError):
         return text
     while True:
         keys: list[typing.Any] = list(value) if isinstance(value, dict) else list(range(len(value)))

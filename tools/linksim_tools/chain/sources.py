@@ -105,6 +105,6 @@ def source_of(given: argparse.Namespace) -> Source:
                 raise Wrong(f"chain also needs {', '.join(missing)}")
             try:
                 return made(given)
-            except (LookupError, TypeError, ValueError, lists.Unreadable) as error:
+            except (LookupError, TypeError, ValueError, ArithmeticError, AttributeError, lists.Unreadable) as error:
                 raise Failed(f"{is_named} is not what tools of linksim write: {error}") from None
     raise Wrong("chain needs --vector and --table, --suite and --case, or the four files of a run")

@@ -11,7 +11,8 @@ MOST, MOST_MESSAGE, MOST_LINES = 60, 380, 10
 def shown(given: object, most: int = MOST) -> str:
     """A word, a key or a line of a user: at most so many characters, and those that are not printed escaped."""
     text = given.decode("utf-8", "backslashreplace") if isinstance(given, bytes) else str(given)
-    plain = "".join(it if it.isprintable() else it.encode("unicode_escape").decode() for it in text[: most + 1])
+    text = text[: most + 1]
+    plain = text if text.isprintable() else "".join(it if it.isprintable() else it.encode("unicode_escape").decode() for it in text)
     return plain if len(plain) <= most else f"{plain[: most - 2]}.."
 
 
