@@ -183,26 +183,32 @@ SLOW_ROUNDS = 8
 
 
 def slow_table_file(folder: pathlib.Path) -> pathlib.Path:
-    """The path of a table of base graph 1 by which positions are fixed one after another. Row 4 + k has columns k and
-    k + 1, and row 25 goes on from the last of them to the first, one place further. Each of the last twenty rows has
-    all of these columns, so that it is visited at each step."""
+    """The path of a table of base graph 1 by which positions are fixed one after another. Row 4 + k fixes a position of one
+    column by the same position of the columns before it, and the previous one of those after it. Row 25 goes on from the last
+    column to the first, one place further. All other entries that a table may have are there, so that each step visits them."""
     path = folder / "table-slow.csv"
     numbers = random.Random(5)
-    places = GRAPHS[1].parity() | {(25, 21): 0, (25, 0): 1}
-    places |= {(4 + k, column): 0 for k in range(21) for column in (k, k + 1)}
-    places |= {(row, column): numbers.randrange(LIFTING) for row in range(26, 46) for column in range(22)}
+    columns = [2, 0, 1, *range(3, 22)]
+    places = GRAPHS[1].parity() | {(25, column): int(column == 2) for column in columns}
+    for k in range(21):
+        places |= {(4 + k, column): 0 for column in columns[: k + 2]}
+        places |= {(4 + k, column): LIFTING - 1 for column in columns[max(k + 2, 3) :]}
+    for row in range(46):
+        for column in range(0 if row < 4 or row > 25 else 22, 22 if row < 4 else 26):
+            places.setdefault((row, column), numbers.randrange(LIFTING))
     write_table(path, 1, places)
     return path
 
 
 def one_by_one(folder: pathlib.Path) -> Files:
-    """Files with rounds of a long block over that table. Of each code block's own bits the first that is sent arrives
-    alone. Of its parity bits all do but the last of column 47, which is row 25's own: so no step begins at the other
-    end."""
+    """Files with rounds of a long block over that table. Of each code block's own bits the first that is sent arrives, and the
+    last of each column. Of its parity bits all do but the last of column 47, which is row 25's own: so no step begins at the
+    other end."""
     own_bits = CODE_BLOCK_BITS - PUNCTURED
+    gaps = [(max(at, 1), min(at + LIFTING - 1, own_bits) - 1) for at in range(0, own_bits, LIFTING)]
     last_of_row_25 = 48 * LIFTING - 1 - PUNCTURED - FILLERS
-    starts = [ONCE * r for r in range(CODE_BLOCKS)]
-    erase = " ".join(f"{start + 1}-{start + own_bits - 1} {start + last_of_row_25}" for start in starts)
+    gaps.append((last_of_row_25, last_of_row_25))
+    erase = " ".join(f"{ONCE * r + first}-{ONCE * r + last}" for r in range(CODE_BLOCKS) for first, last in gaps)
     line = f"1,0,{ONCE * CODE_BLOCKS},1,1,{erase},-,all,0,1"
     return slow_table_file(folder), settings_file(folder), blocks_file(folder, 1), lines_file(
         folder, "one-by-one.csv", [line] * SLOW_ROUNDS, ROUND_COLUMNS
@@ -242,7 +248,7 @@ LOADS: list[tuple[str, FilesIn]] = [
         rounds(3824, 5712, 1000),
     ),
     ("4,096 transmissions of one bit each of a block of 1,310,688 bits", single_bits),
-    (f"{SLOW_ROUNDS} rounds of such a block, over a table of 535 entries that fixes one position a turn", one_by_one),
+    (f"{SLOW_ROUNDS} rounds of such a block, over a table of 1,230 entries that fixes one position a turn", one_by_one),
     (f"{SLOW_ROUNDS} rounds of such a block, with a contradiction in each code block", contradictions),
     (f"{SLOW_ROUNDS} transmissions of 4,194,304 bits out of a buffer of one bit", one_bit_buffer),
 ]

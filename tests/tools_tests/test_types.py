@@ -25,7 +25,7 @@ TESTS = [
     [
         *(f"tests/{name.replace('-', '_')}_tests" for name in SUITES), *(f"tests/{name}" for name in (*SUITES, *SCRIPTS)),
         *(f"gate/{name}" for name in GATE),
-        "examples/draw-table", "bench/inputs.py", "bench/throughput", "bench/python_calls",
+        "examples/draw-table", "bench/fast_bodies", "bench/inputs.py", "bench/throughput", "bench/python_calls",
     ],
     ["tests/model", "tests/program_tests", "tests/program"],
 ]
