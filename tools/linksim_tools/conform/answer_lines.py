@@ -76,7 +76,7 @@ def taken_from(
     answers."""
     troubles: list[str] = []
     others: list[bytes] = []
-    number, is_whole = 0, True
+    number, is_whole, most = 0, True, min(most, RESULTS)
     try:
         with open(path, "rb") as file:
             while line := file.readline(most + 1):
