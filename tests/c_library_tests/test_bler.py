@@ -12,7 +12,7 @@ import typing
 import unittest
 import unittest.mock
 
-import built
+import clib
 
 POINTS = [0.01, 0.1, 0.15]
 CONF = """table = "practice.csv"
@@ -35,8 +35,8 @@ class Rates(unittest.TestCase):
     """What a notebook shows in one line, and what a cluster makes."""
 
     def setUp(self) -> None:
-        built.numpy()
-        self.nr = built.module()
+        clib.numpy()
+        self.nr = clib.module()
         self.table, self.txs = self.nr.Table.practice(), [self.nr.Tx(g=2000, rv=rv, qm=2) for rv in (0, 2)]
 
     def bler(self, **more: typing.Any) -> typing.Any:
@@ -47,10 +47,10 @@ class Rates(unittest.TestCase):
         folder = pathlib.Path(tempfile.mkdtemp(prefix="nr-bler-"))
         self.addCleanup(shutil.rmtree, folder)
         (folder / "curve.toml").write_text(CONF)
-        shutil.copy(built.PRACTICE, folder)
-        curve = [sys.executable, built.ROOT / "tools" / "curve"]
-        built.done([*curve, "run", folder / "curve.toml", "--program", built.program(), "--jobs", "2"])
-        said = built.done([*curve, "pool", folder / "curve.toml", "--program", built.program()]).decode()
+        shutil.copy(clib.PRACTICE, folder)
+        curve = [sys.executable, clib.ROOT / "tools" / "curve"]
+        clib.done([*curve, "run", folder / "curve.toml", "--program", clib.program(), "--jobs", "2"])
+        said = clib.done([*curve, "pool", folder / "curve.toml", "--program", clib.program()]).decode()
         wanted = [[float("nan" if it == "-" else it) for it in line[:9]] for line in list(csv.reader(said.splitlines()))[1:]]
         for jobs in (1, 3):
             found = self.bler(jobs=jobs)
@@ -104,7 +104,7 @@ class Rates(unittest.TestCase):
         """In a folder of its own, as the wheel has it, the module has all that it calls."""
         folder = pathlib.Path(tempfile.mkdtemp(prefix="nr-packed-"))
         self.addCleanup(shutil.rmtree, folder)
-        built.done([sys.executable, built.C / "nr_build.py", folder])
+        clib.done([sys.executable, clib.C / "nr_build.py", folder])
         script = "import nr; print(nr.bler(nr.Table.practice(), 72, nr.Tx(200), p=0.3, rounds=50, chunks=1, rate=1).rates.shape)"
-        environment = {**built.for_python(), "PYTHONPATH": os.fspath(folder)}
-        self.assertEqual(built.done([sys.executable, "-c", script], folder, environment), b"(1, 1)\n")
+        environment = {**clib.for_python(), "PYTHONPATH": os.fspath(folder)}
+        self.assertEqual(clib.done([sys.executable, "-c", script], folder, environment), b"(1, 1)\n")

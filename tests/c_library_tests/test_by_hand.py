@@ -4,9 +4,9 @@ from __future__ import annotations
 
 import unittest
 
-import built
+import clib
 
-TABLE = built.table(built.PRACTICE.read_bytes())
+TABLE = clib.table(clib.PRACTICE.read_bytes())
 
 # The codeword of octet 01 under the practice table, from the third column on, with each column's four bits. The
 # information columns are 0 1 1 0 2 1 with the CRC, and the last four stand here. Four columns of fillers and the parity
@@ -32,39 +32,39 @@ class ByHand(unittest.TestCase):
         """At the rate 0.25, 3832 bits have two code blocks and 7632 bits three. Of two the second has the longer length,
         of three the third; those that are scheduled share all (5.4.2.1)."""
         for a, tx, wanted in [
-            (3832, built.tx(28, qm=4), [12, 16]),
-            (3832, built.tx(4, qm=4), [0, 4]),
-            (3832, built.tx(28, qm=2, nl=2), [12, 16]),
-            (7632, built.tx(28, qm=4), [8, 8, 12]),
-            (7632, built.tx(28, qm=4, blocks=[0, 2]), [12, 0, 16]),
+            (3832, clib.tx(28, qm=4), [12, 16]),
+            (3832, clib.tx(4, qm=4), [0, 4]),
+            (3832, clib.tx(28, qm=2, nl=2), [12, 16]),
+            (7632, clib.tx(28, qm=4), [8, 8, 12]),
+            (7632, clib.tx(28, qm=4, blocks=[0, 2]), [12, 0, 16]),
         ]:
-            self.assertEqual(built.written(built.Room(len(wanted), item=4), "nr_lengths", 512, a, tx).numbers(), wanted)
+            self.assertEqual(clib.written(clib.Room(len(wanted), item=4), "nr_lengths", 512, a, tx).numbers(), wanted)
 
     def test_refused_lengths(self) -> None:
         """Two code blocks, and then three, of which a fourth one alone is scheduled."""
         for status, a, tx in [
-            (51, 3832, built.tx(28, qm=3)),
-            (52, 3832, built.tx(28, qm=4, nl=5)),
-            (53, 3832, built.tx(0, qm=4)),
-            (53, 3832, built.tx(4_194_308, qm=4)),
-            (54, 3832, built.tx(30, qm=4)),
-            (55, 7632, built.tx(28, qm=4, blocks=[3])),
-            (54, 7632, built.tx(30, qm=4, blocks=[3])),
+            (51, 3832, clib.tx(28, qm=3)),
+            (52, 3832, clib.tx(28, qm=4, nl=5)),
+            (53, 3832, clib.tx(0, qm=4)),
+            (53, 3832, clib.tx(4_194_308, qm=4)),
+            (54, 3832, clib.tx(30, qm=4)),
+            (55, 7632, clib.tx(28, qm=4, blocks=[3])),
+            (54, 7632, clib.tx(30, qm=4, blocks=[3])),
         ]:
-            room = built.Room(3 if a == 7632 else 2, item=4)
-            self.assertEqual(built.call("nr_lengths", 512, a, tx, room), status)
+            room = clib.Room(3 if a == 7632 else 2, item=4)
+            self.assertEqual(clib.call("nr_lengths", 512, a, tx, room), status)
             self.assertTrue(room.is_unwritten())
 
     def test_codeword(self) -> None:
         """The 24 bits are octet 01 and its CRC, 1021 in hexadecimal."""
         bits = bytes(place in (7, 11, 18, 23) for place in range(24))
-        found = list(built.made(200, "nr_codeword", TABLE, 2048, 8, bits))
+        found = list(clib.made(200, "nr_codeword", TABLE, 2048, 8, bits))
         self.assertEqual(found, [octet for column in COLUMNS for octet in octets_of(column)])
 
     def test_received(self) -> None:
         """The codeword of zeros is zeros. At first nothing is sent. The first transmission is erased, by octets of every
         kind; the second one is heard whole; and the third one's ones contradict it."""
-        txs = [built.tx(8), built.tx(184), built.tx(8)]
+        txs = [clib.tx(8), clib.tx(184), clib.tx(8)]
         heard = bytes([2, 3, 255, 2, 2, 2, 2, 2]) + bytes(184) + b"\1" * 8
         for count, places, outcomes, left, block in [
             (0, 0, [], 24, b"\xa5"),
@@ -72,7 +72,7 @@ class ByHand(unittest.TestCase):
             (2, 192, [0, 1], 0, b"\0"),
             (3, 200, [0, 1, 2], 0, b"\xa5"),
         ]:
-            found, open_places, room = built.Room(count, item=4), built.Room(1, item=4), built.Room(1)
-            given = built.settings(2048), 8, txs[:count], heard[:places]
-            self.assertEqual(built.call("nr_receive", TABLE, *given, found, open_places, room), 0)
+            found, open_places, room = clib.Room(count, item=4), clib.Room(1, item=4), clib.Room(1)
+            given = clib.settings(2048), 8, txs[:count], heard[:places]
+            self.assertEqual(clib.call("nr_receive", TABLE, *given, found, open_places, room), 0)
             self.assertEqual((found.numbers(), open_places.numbers(), room.octets()), (outcomes, [left], block))

@@ -8,10 +8,10 @@ import re
 import typing
 import unittest
 
-import built
+import clib
 
-HEADER = re.sub(r"/\*.*?\*/", "", (built.C / "nr.h").read_text(), flags=re.DOTALL)
-CRATES = built.ROOT / "crates"
+HEADER = re.sub(r"/\*.*?\*/", "", (clib.C / "nr.h").read_text(), flags=re.DOTALL)
+CRATES = clib.ROOT / "crates"
 EXPORTS, SOURCES = (
     "".join(path.read_text() for path in sorted((CRATES / name / "src").glob("**/*.rt"))) for name in ("nr_c", "nr_calls")
 )
@@ -19,7 +19,7 @@ EXPORTS, SOURCES = (
 ENTRIES = (CRATES / "nr_shifttable" / "src" / "entry.rt").read_text()
 # The calls that C has alone.
 NAMES = ["nr_fault_name", "nr_version"]
-VERSION = (built.ROOT / "VERSION").read_text().strip()
+VERSION = (clib.ROOT / "VERSION").read_text().strip()
 
 # How C writes what Rattle passes.
 ITEMS = {"u8": "uint8_t", "u16": "uint16_t", "u32": "uint32_t", "u64": "uint64_t", "usize": "size_t"}
@@ -89,7 +89,7 @@ class Header(unittest.TestCase):
         self.assertEqual(found, statuses())
 
     def test_names(self) -> None:
-        names = {name: number for number in range(1000) if (name := built.module().fault_name(number)) != "unknown"}
+        names = {name: number for number in range(1000) if (name := clib.module().fault_name(number)) != "unknown"}
         self.assertEqual(names, statuses() | {"Ok": 0})
 
     def test_version(self) -> None:
@@ -97,27 +97,27 @@ class Header(unittest.TestCase):
         defined = dict(re.findall(r"#define (NR_VERSION\w*|NR_INTERFACE) (\S+)", HEADER))
         numbers = [defined[f"NR_VERSION_{part}"] for part in ("MAJOR", "MINOR", "PATCH")]
         self.assertEqual((defined["NR_VERSION"], ".".join(numbers)), (f'"{VERSION}"', VERSION.partition("-")[0]))
-        self.assertEqual(built.module().__version__, VERSION)
-        self.assertEqual(f"libnr.so.{defined['NR_INTERFACE']}", built.LIBRARY.name)
+        self.assertEqual(clib.module().__version__, VERSION)
+        self.assertEqual(f"libnr.so.{defined['NR_INTERFACE']}", clib.LIBRARY.name)
 
 
 class Libraries(unittest.TestCase):
     """What the libraries show, and what they ask of the system."""
 
     def symbols(self, kind: str, path: pathlib.Path) -> set[str]:
-        built.needs("nm")
-        dynamic = ["-D"] if path == built.LIBRARY else []
-        lines = built.done(["nm", "-P", *dynamic, kind, path]).decode().splitlines()
+        clib.needs("nm")
+        dynamic = ["-D"] if path == clib.LIBRARY else []
+        lines = clib.done(["nm", "-P", *dynamic, kind, path]).decode().splitlines()
         return {line.split()[0].partition("@")[0] for line in lines if line.split()[1:] and line.split()[1] not in "Aw"}
 
     def test_shared(self) -> None:
-        self.assertEqual(self.symbols("--defined-only", built.LIBRARY), {*exports(), *NAMES})
+        self.assertEqual(self.symbols("--defined-only", clib.LIBRARY), {*exports(), *NAMES})
 
     def test_asks(self) -> None:
         allowed = {"malloc", "realloc", "free", "memcpy", "memmove", "memset", "memcmp"}
-        self.assertLessEqual(self.symbols("--undefined-only", built.LIBRARY), allowed)
+        self.assertLessEqual(self.symbols("--undefined-only", clib.LIBRARY), allowed)
 
     def test_static(self) -> None:
-        shown = self.symbols("--extern-only", built.STATIC) - self.symbols("--undefined-only", built.STATIC)
+        shown = self.symbols("--extern-only", clib.STATIC) - self.symbols("--undefined-only", clib.STATIC)
         self.assertEqual(shown, {*exports(), *NAMES})
-        self.assertIn("rattle_alloc", self.symbols("--defined-only", built.STATIC))
+        self.assertIn("rattle_alloc", self.symbols("--defined-only", clib.STATIC))

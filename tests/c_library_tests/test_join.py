@@ -6,8 +6,8 @@ import random
 import typing
 import unittest
 
-import built
-from built import made
+import clib
+from clib import made
 from model import coding, encoder
 
 # What nr_join writes: whether each code block's CRC passes, whether the transport block's does, and the octets.
@@ -16,8 +16,8 @@ Joined = typing.Tuple[typing.List[int], int, bytes]
 
 def joined(rate2048: int, a: int, rows: list[list[int]]) -> Joined:
     """What nr_join writes of these rows."""
-    passed, whole, block = built.Room(len(rows)), built.struct(), built.Room(a // 8)
-    status = built.call("nr_join", rate2048, a, bytes(bit for row in rows for bit in row), passed, whole, block)
+    passed, whole, block = clib.Room(len(rows)), clib.struct(), clib.Room(a // 8)
+    status = clib.call("nr_join", rate2048, a, bytes(bit for row in rows for bit in row), passed, whole, block)
     assert status == 0, f"status {status}"
     return list(passed.octets()), whole.numbers()[0], block.octets()
 
@@ -83,8 +83,8 @@ class Rejected(unittest.TestCase):
     """The errors in their order; nothing is written then."""
 
     def refused(self, status: int, rate2048: int, a: int, bits: bytes, rooms: tuple[int, int] = (0, 0)) -> None:
-        passed, whole, block = built.Room(rooms[0]), built.struct(), built.Room(rooms[1])
-        self.assertEqual(built.call("nr_join", rate2048, a, bits, passed, whole, block), status)
+        passed, whole, block = clib.Room(rooms[0]), clib.struct(), clib.Room(rooms[1])
+        self.assertEqual(clib.call("nr_join", rate2048, a, bits, passed, whole, block), status)
         self.assertTrue(passed.is_unwritten() and whole.is_unwritten() and block.is_unwritten())
 
     def test_in_order(self) -> None:

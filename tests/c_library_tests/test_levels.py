@@ -10,7 +10,7 @@ import sys
 import unittest
 
 import archive as making
-import built
+import clib
 
 # Rounds, rows and bits of both base graphs, of one and several code blocks and words, hashed.
 DRAWN = """
@@ -40,18 +40,18 @@ class Levels(unittest.TestCase):
     def setUpClass(cls) -> None:
         if not making.FASTER.exists():
             raise unittest.SkipTest("there is no archive for x86-64-v3")
-        cls.top = built.FOLDER / "levels"
+        cls.top = clib.FOLDER / "levels"
         # The module looks for the library in out/ beside its folder.
-        shutil.copytree(built.C / "nr", cls.top / "nr", ignore=shutil.ignore_patterns("__pycache__"))
-        (cls.top / "nr" / "practice.csv").write_bytes(built.DRAWN.read_bytes() + built.PRACTICE.read_bytes())
-        places = [f"NR_C={built.archive()}", f"NR_C_V3={making.FASTER}", f"OUT={cls.top / 'out'}"]
-        built.done(["make", "-s", "-C", built.C, *places, "all"])
+        shutil.copytree(clib.C / "nr", cls.top / "nr", ignore=shutil.ignore_patterns("__pycache__"))
+        (cls.top / "nr" / "practice.csv").write_bytes(clib.DRAWN.read_bytes() + clib.PRACTICE.read_bytes())
+        places = [f"NR_C={clib.archive()}", f"NR_C_V3={making.FASTER}", f"OUT={cls.top / 'out'}"]
+        clib.done(["make", "-s", "-C", clib.C, *places, "all"])
 
     def said(self, **environment: str) -> list[str]:
         """The folder of the loaded library, that of the one for every processor, and what comes of the calls."""
         words = [sys.executable, "-c", DRAWN]
         kept = {name: value for name, value in os.environ.items() if name not in ("NR_LIBRARY", "NR_CPU")}
-        return built.done(words, environment={**kept, "PYTHONPATH": str(self.top), **environment}).decode().split()
+        return clib.done(words, environment={**kept, "PYTHONPATH": str(self.top), **environment}).decode().split()
 
     def test_same(self) -> None:
         """Both libraries give the same octets, and NR_CPU names the one that is loaded."""

@@ -11,7 +11,7 @@ import typing
 import unittest
 import unittest.mock
 
-import built
+import clib
 
 RATE = {"rate2048": 2048}
 COUNT, OCTETS, G = 20, 30, 400
@@ -27,7 +27,7 @@ def plain(found: typing.Any) -> tuple[typing.Any, ...]:
     return tuple(it.tolist() for it in found)
 
 
-class Many(built.OfModule):
+class Many(clib.OfModule):
     """Blocks in an array, and what was heard of them; what is given back is numpy's if it is there."""
 
     def setUp(self) -> None:
@@ -64,14 +64,14 @@ class Many(built.OfModule):
         self.assertEqual(self.nr.send_many(self.table, none, self.tx, **RATE).shape, (0, G))
         for words, name in [({"tx": self.nr.Tx(G, rv=4)}, "Rv"), ({"rate2048": 0}, "RateRange"), ({"tx": self.nr.Tx(G + 1, qm=2)}, "Ragged")]:
             words = {"tx": self.tx, **RATE, **words}
-            self.assertEqual(built.fault_of(self.nr.send_many, self.table, none, **words).name, name)
+            self.assertEqual(clib.fault_of(self.nr.send_many, self.table, none, **words).name, name)
 
     def test_sent_into_a_room(self) -> None:
         for room in [bytearray(COUNT * G), rows(bytearray(COUNT * G), COUNT), ((ctypes.c_ubyte * G) * COUNT)()]:
             self.assertIs(self.nr.send_many(self.table, self.blocks, self.tx, out=room, **RATE), room)
             self.assertEqual(bytes(room), self.sent)
         for room in [bytearray(COUNT * G - 1), bytearray(G), rows(bytearray(COUNT * G), G), bytearray()]:
-            fault = built.fault_of(self.nr.send_many, self.table, self.blocks, self.tx, out=room, **RATE)
+            fault = clib.fault_of(self.nr.send_many, self.table, self.blocks, self.tx, out=room, **RATE)
             self.assertEqual((fault.name, any(bytes(room))), ("Room", False))
         for room in [bytes(COUNT * G), rows(bytes(COUNT * G), COUNT), memoryview(bytearray(2 * COUNT * G))[::2]]:
             self.assertRaises((TypeError, ValueError), self.nr.send_many, self.table, self.blocks, self.tx, out=room, **RATE)
@@ -108,7 +108,7 @@ class Many(built.OfModule):
         with self.assertWarnsRegex(UserWarning, "bits=") as warned:
             self.nr.send_many(self.table, rows(bytearray([0, 1] * 4), 1), self.tx, **RATE)
         self.assertEqual(warned.filename, __file__)
-        fault = built.fault_of(self.nr.send_many, self.table, tx=self.tx, bits=rows(bytes(7) + b"\2", 1), **RATE)
+        fault = clib.fault_of(self.nr.send_many, self.table, tx=self.tx, bits=rows(bytes(7) + b"\2", 1), **RATE)
         self.assertEqual(fault.name, "Bit")
 
     def test_received(self) -> None:
@@ -184,7 +184,7 @@ class Many(built.OfModule):
         bits = self.nr.send(self.table, bytes(a // 8), tx, rate2048=512)
         places = bytes(2 if at * 7919 % 100 < 40 else bit for at, bit in enumerate(bits))
         call = self.nr.receive_many
-        self.assertTrue(built.others_run(lambda: call(self.table, a, [tx] * 200, [places * 200], rate2048=512)))
+        self.assertTrue(clib.others_run(lambda: call(self.table, a, [tx] * 200, [places * 200], rate2048=512)))
 
     def test_edges(self) -> None:
         for txs, heard, shapes in [
@@ -212,10 +212,10 @@ class Many(built.OfModule):
             (lambda: self.nr.receive_many(self.table, 8, self.tx, [bytes(G - 1)], **RATE), "Length"),
         ]
         for call, name in calls:
-            self.assertEqual(built.fault_of(call).name, name)
+            self.assertEqual(clib.fault_of(call).name, name)
 
     def test_numpy(self) -> None:
-        numpy = built.numpy()
+        numpy = clib.numpy()
         blocks = numpy.frombuffer(b"".join(self.blocks), numpy.uint8).reshape(COUNT, OCTETS)
         bits = numpy.unpackbits(blocks, axis=1)
         for given in [blocks, blocks.copy(), numpy.repeat(blocks, 2, 0)[::2], numpy.asfortranarray(blocks)]:

@@ -10,17 +10,17 @@ import sys
 import typing
 import unittest
 
-import built
+import clib
 from model import encoder
 
-PRACTICE = built.PRACTICE.read_bytes()
+PRACTICE = clib.PRACTICE.read_bytes()
 RATE = {"rate2048": 2048}
 BLOCK = b"123456789"
 PAGES = ["README.md", "docs/c-library.md", "docs/curves.md", "docs/soft-receiver.md"]
 SCRIPTS = re.compile(r"```python\n(.*?)```\n+```\n(.*?)```", re.DOTALL)
 
 
-class Module(built.OfModule):
+class Module(clib.OfModule):
     """The calls over buffers of several kinds."""
 
     def setUp(self) -> None:
@@ -65,16 +65,16 @@ class Module(built.OfModule):
 
     def test_table(self) -> None:
         """A table is read once; a text in place of one, and a text that is refused."""
-        drawn = built.DRAWN.read_bytes()
+        drawn = clib.DRAWN.read_bytes()
         for text, counts in [(PRACTICE, (0, 105)), (drawn, (316, 0)), (PRACTICE + drawn, (316, 105))]:
             table = self.nr.Table(text)
             self.assertEqual((table.one, table.two, len(table)), (*counts, sum(counts)))
-            self.assertEqual(bytes(table._entries), built.table(text).octets())
+            self.assertEqual(bytes(table._entries), clib.table(text).octets())
             self.assertEqual(repr(table), f"Table(one={counts[0]}, two={counts[1]})")
         self.assertRaises(TypeError, self.nr.send, PRACTICE, BLOCK, self.tx, **RATE)
         self.assertRaises(TypeError, self.nr.Table, "text")
         for text, said in [(b"", "Empty"), (PRACTICE + PRACTICE, "Twice 106"), (PRACTICE[:-1] + b"x\n", "Number 105")]:
-            self.assertEqual(str(built.fault_of(self.nr.Table, text)).partition(":")[0], said)
+            self.assertEqual(str(clib.fault_of(self.nr.Table, text)).partition(":")[0], said)
 
     def test_room(self) -> None:
         rooms: list[typing.Any] = [
@@ -87,7 +87,7 @@ class Module(built.OfModule):
             self.assertRaises((TypeError, ValueError, BufferError), self.nr.send, self.table, BLOCK, self.tx, out=room, **RATE)
 
     def test_numpy(self) -> None:
-        numpy = built.numpy()
+        numpy = clib.numpy()
         bits = numpy.frombuffer(self.bits, numpy.uint8)
         for kind in [numpy.uint8, numpy.int8, numpy.bool_]:
             self.delivered(bits.astype(kind))
@@ -123,9 +123,9 @@ class Module(built.OfModule):
             (lambda: self.nr.buffer(8, 4, **RATE), 50, "Rv"),
         ]
         for call, status, name in calls:
-            fault = built.fault_of(call)
+            fault = clib.fault_of(call)
             self.assertEqual((fault.status, fault.name), (status, name))
-        fault = built.fault_of(self.nr.check_table, PRACTICE + b"3,0,0" + b",0" * 8)
+        fault = clib.fault_of(self.nr.check_table, PRACTICE + b"3,0,0" + b",0" * 8)
         self.assertEqual((fault.name, fault.place), ("Range", 106))
 
     def test_what_is_no_number_of_32_bits(self) -> None:
@@ -156,16 +156,16 @@ class Documents(unittest.TestCase):
     """The blocks ```python of the documents, as they stand there, from the repository's top."""
 
     def check(self, over_numpy: bool) -> None:
-        found = [it for page in PAGES for it in SCRIPTS.findall((built.ROOT / page).read_text())]
+        found = [it for page in PAGES for it in SCRIPTS.findall((clib.ROOT / page).read_text())]
         chosen = [(script, said) for script, said in found if bool(NUMPY.search(script)) == over_numpy]
         self.assertTrue(chosen)
         for script, said in chosen:
-            output = built.done([sys.executable, "-c", script], built.ROOT, built.for_python())
+            output = clib.done([sys.executable, "-c", script], clib.ROOT, clib.for_python())
             self.assertEqual(output.decode(), said)
 
     def test_pages(self) -> None:
         self.check(False)
 
     def test_pages_over_numpy(self) -> None:
-        built.numpy()
+        clib.numpy()
         self.check(True)

@@ -10,12 +10,12 @@ import random
 import typing
 import unittest
 
-import built
-from built import made
-from kept import Kept
+import clib
+from clib import made
+from rooms import Kept
 from model import coding
 
-BOTH = built.table(built.PRACTICE.read_bytes() + built.DRAWN.read_bytes())
+BOTH = clib.table(clib.PRACTICE.read_bytes() + clib.DRAWN.read_bytes())
 SIZE = ctypes.c_size_t
 
 
@@ -24,20 +24,20 @@ def drawn(draw: random.Random, count: int) -> bytes:
     return bytes(draw.choices(range(256), k=count))
 
 
-def received(a: int, settings: typing.Any, txs: list[built.Tx], row: bytes) -> list[bytes]:
+def received(a: int, settings: typing.Any, txs: list[clib.Tx], row: bytes) -> list[bytes]:
     """What nr_receive writes of one block."""
     c = coding.plan(a, settings[0])["c"]
-    rooms = built.Room(len(txs), item=4), built.Room(c, item=4), built.Room(a // 8)
-    status = built.call("nr_receive", BOTH, settings, a, txs, row, *rooms)
+    rooms = clib.Room(len(txs), item=4), clib.Room(c, item=4), clib.Room(a // 8)
+    status = clib.call("nr_receive", BOTH, settings, a, txs, row, *rooms)
     assert status == 0, f"nr_receive: {status}"
     return [it.octets() for it in rooms]
 
 
-def received_many(a: int, settings: typing.Any, txs: list[built.Tx], count: int, rows: bytes) -> list[bytes]:
+def received_many(a: int, settings: typing.Any, txs: list[clib.Tx], count: int, rows: bytes) -> list[bytes]:
     """What nr_receive_many writes of rows."""
     c = coding.plan(a, settings[0])["c"]
-    rooms = built.Room(len(txs) * count, item=4), built.Room(c * count, item=4), built.Room(count * a // 8)
-    status = built.call("nr_receive_many", BOTH, settings, a, txs, SIZE(count), rows, *rooms)
+    rooms = clib.Room(len(txs) * count, item=4), clib.Room(c * count, item=4), clib.Room(count * a // 8)
+    status = clib.call("nr_receive_many", BOTH, settings, a, txs, SIZE(count), rows, *rooms)
     assert status == 0, f"nr_receive_many: {status}"
     return [it.octets() for it in rooms]
 
@@ -50,10 +50,10 @@ class Words(unittest.TestCase):
         # (rate, octets): Zc of both base graphs
         sizes = {2048: (36, 100, 200, 300, 400, 500, 700), 512: (60, 100, 150, 200, 260, 300, 470)}
         for rate2048, octets in [(rate, octets) for rate, those in sizes.items() for octets in those]:
-            a, settings, draw = 8 * octets, built.settings(rate2048), random.Random(octets)
+            a, settings, draw = 8 * octets, clib.settings(rate2048), random.Random(octets)
             plan = coding.plan(a, rate2048)
             seen.add((plan["graph"], -(-plan["z"] // 64)))
-            tx = built.tx(plan["c"] * plan["n"] * 3 // 4 // 2 * 2, 0, 2)
+            tx = clib.tx(plan["c"] * plan["n"] * 3 // 4 // 2 * 2, 0, 2)
             blocks = [drawn(draw, octets) for _ in range(4)]
             sent = [made(tx.g, "nr_send", BOTH, settings, block, tx) for block in blocks]
             rows = [bytes(2 if draw.random() < 0.2 * k else bit for bit in row) for k, row in enumerate(sent)]
@@ -69,8 +69,8 @@ class Sizes(unittest.TestCase):
 
     def test_rows(self) -> None:
         """2,000 rows, and 20 transmissions of a block."""
-        a, settings, draw = 72, built.settings(2048), random.Random(2)
-        for count, txs in [(2000, [built.tx(120, 0, 2)]), (2, [built.tx(20, k % 4, 2) for k in range(20)])]:
+        a, settings, draw = 72, clib.settings(2048), random.Random(2)
+        for count, txs in [(2000, [clib.tx(120, 0, 2)]), (2, [clib.tx(20, k % 4, 2) for k in range(20)])]:
             width = sum(tx.g for tx in txs)
             blocks = drawn(draw, 9 * count)
             sent = made(count * width, "nr_send_many", BOTH, settings, a, txs, SIZE(count), blocks)
@@ -83,14 +83,14 @@ class Sizes(unittest.TestCase):
 
     def test_rounds(self) -> None:
         """1,500 rounds, and 20 transmissions a round: each round alone is the same."""
-        settings = built.settings(2048)
-        for rounds, txs in [(1500, [built.tx(120, 0, 2)]), (3, [built.tx(8, k % 4, 2) for k in range(20)])]:
+        settings = clib.settings(2048)
+        for rounds, txs in [(1500, [clib.tx(120, 0, 2)]), (3, [clib.tx(8, k % 4, 2) for k in range(20)])]:
             t = len(txs)
             thresholds, seeds = array.array("I", [1 << 30] * t), array.array("Q", range(7, 7 + rounds * t))
 
             def simulated(own: array.array[int], n: int) -> list[bytes]:
-                rooms = built.Room(n, item=4), built.Room(n * t, item=4), built.Room(n * t, item=4)
-                self.assertEqual(built.call("nr_simulate", BOTH, settings, 72, txs, thresholds, own, *rooms), 0)
+                rooms = clib.Room(n, item=4), clib.Room(n * t, item=4), clib.Room(n * t, item=4)
+                self.assertEqual(clib.call("nr_simulate", BOTH, settings, 72, txs, thresholds, own, *rooms), 0)
                 return [it.octets() for it in rooms]
 
             found = simulated(seeds, rounds)
@@ -101,9 +101,9 @@ class Sizes(unittest.TestCase):
     def test_places(self) -> None:
         """12 code blocks of base graph 2 in 480,000 places, whole: by nr_send, nr_receive, nr_receive_many and a room."""
         a, rate2048 = 8 * 5721, 512
-        settings, plan = built.settings(rate2048), coding.plan(a, rate2048)
+        settings, plan = clib.settings(rate2048), coding.plan(a, rate2048)
         self.assertEqual((plan["c"], plan["z"]), (12, 384))
-        block, tx = drawn(random.Random(9), a // 8), built.tx(480_000, 0, 8)
+        block, tx = drawn(random.Random(9), a // 8), clib.tx(480_000, 0, 8)
         sent = made(tx.g, "nr_send", BOTH, settings, block, tx)
         one = received(a, settings, [tx], sent)
         self.assertEqual(one[2], block)
@@ -117,7 +117,7 @@ class Sizes(unittest.TestCase):
         z, ncb, rv, e = 384, 20_000, 2, 40_000
         d = bytes(random.Random(4).choices((0, 1), k=66 * z))
         k0 = 33 * ncb // (66 * z) * z
-        self.assertEqual(made(e, "nr_match", built.matching(1, z, 0, ncb, rv, 1), d), bytes(d[(k0 + j) % ncb] for j in range(e)))
+        self.assertEqual(made(e, "nr_match", clib.matching(1, z, 0, ncb, rv, 1), d), bytes(d[(k0 + j) % ncb] for j in range(e)))
 
 
 if __name__ == "__main__":

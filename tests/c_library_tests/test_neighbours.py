@@ -13,7 +13,7 @@ import subprocess
 import typing
 import unittest
 
-import built
+import clib
 
 INCLUDE = pathlib.Path("/usr/include")
 PLACES = [INCLUDE, INCLUDE / "x86_64-linux-gnu", INCLUDE / "dpdk", INCLUDE / "x86_64-linux-gnu" / "dpdk"]
@@ -25,7 +25,7 @@ WORDS = {"define", "defined", "else", "endif", "extern", "if", "ifdef", "ifndef"
 
 def words_of(name: str) -> set[str]:
     """The words of a header of ours outside of comments."""
-    text = re.sub(r'/\*.*?\*/|"[^"]*"', "", (built.C / name).read_text(), flags=re.DOTALL)
+    text = re.sub(r'/\*.*?\*/|"[^"]*"', "", (clib.C / name).read_text(), flags=re.DOTALL)
     return set(re.findall(r"\b[A-Za-z_]\w*", text)) - WORDS
 
 
@@ -52,13 +52,13 @@ class Neighbours(unittest.TestCase):
     """Before and after other headers nr.h compiles, and its constants keep their values."""
 
     def compiles(self, language: str, lines: typing.Sequence[str]) -> bool:
-        words = [built.compiler(), "-x", language, f"-std={LANGUAGES[language]}", "-fsyntax-only", "-w", f"-I{built.C}", "-msse4.2"]
+        words = [clib.compiler(), "-x", language, f"-std={LANGUAGES[language]}", "-fsyntax-only", "-w", f"-I{clib.C}", "-msse4.2"]
         words += [f"-isystem{place}" for place in PLACES[2:] if place.exists()]
         text = "".join(f"#include <{line}>\n" if line.endswith(".h") else line for line in lines)
-        return subprocess.run([*words, "-"], input=text.encode(), stderr=subprocess.DEVNULL, timeout=built.SECONDS).returncode == 0
+        return subprocess.run([*words, "-"], input=text.encode(), stderr=subprocess.DEVNULL, timeout=clib.SECONDS).returncode == 0
 
     def test_each(self) -> None:
-        there, pairs = headers(), re.findall(r"\b(NR_\w+) = (\d+)", (built.C / "nr.h").read_text())
+        there, pairs = headers(), re.findall(r"\b(NR_\w+) = (\d+)", (clib.C / "nr.h").read_text())
         self.assertIn(("NR_OUTCOME_OPEN", "0"), pairs)
         says = "".join(f"typedef char nr_is_{name}[(int)({name}) == {value} ? 1 : -1];\n" for name, value in pairs)
         for name in [*touching(words_of("nr.h")), *(name for name in CLASHED if name in there)]:

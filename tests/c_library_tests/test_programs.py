@@ -11,7 +11,7 @@ import sys
 import typing
 
 import archive as making
-import built
+import clib
 
 WARNINGS = ["-Wall", "-Wextra", "-pedantic", "-Werror"]
 WRAPPED = [f"-Wl,--wrap={name}" for name in ("malloc", "calloc", "realloc", "free")]
@@ -37,22 +37,22 @@ GROWING += ["nr_select", "nr_interleave", "nr_match", "nr_simulate", "nr_receive
 GROWING += ["nr_receive_many", "nr_join", "nr_send_packed", "nr_receive_packed"]
 
 
-class Compiled(built.InFolder):
+class Compiled(clib.InFolder):
     """A test that compiles programs."""
 
     def compiled(
-        self, source: str | pathlib.Path, *flags: str, compiler: str | None = None, ending: typing.Sequence[object] = (built.STATIC,)
+        self, source: str | pathlib.Path, *flags: str, compiler: str | None = None, ending: typing.Sequence[object] = (clib.STATIC,)
     ) -> pathlib.Path:
         """The program of a source, over the static library if no other ending is given."""
         program = self.folder / pathlib.Path(source).stem
-        words = [compiler or built.compiler(), "-O1", *WARNINGS, *flags, f"-I{built.C}", built.HERE / source]
-        built.done([*words, "-o", program, *(["-x", "none"] if "-x" in flags else []), *ending])
+        words = [compiler or clib.compiler(), "-O1", *WARNINGS, *flags, f"-I{clib.C}", clib.HERE / source]
+        clib.done([*words, "-o", program, *(["-x", "none"] if "-x" in flags else []), *ending])
         return program
 
     def both_graphs(self) -> pathlib.Path:
         """The path of the practice table with one of base graph 1."""
         path = self.folder / "both.csv"
-        path.write_bytes(built.PRACTICE.read_bytes() + built.DRAWN.read_bytes())
+        path.write_bytes(clib.PRACTICE.read_bytes() + clib.DRAWN.read_bytes())
         return path
 
 
@@ -60,52 +60,52 @@ class Programs(Compiled):
     """The test programs."""
 
     def test_calls(self) -> None:
-        built.done([self.compiled("calls.c", "-std=c99"), built.PRACTICE])
+        clib.done([self.compiled("calls.c", "-std=c99"), clib.PRACTICE])
 
     def test_calls_in_cpp(self) -> None:
-        compiler = os.environ.get("CXX") or built.needs("c++", "g++", "clang++")
+        compiler = os.environ.get("CXX") or clib.needs("c++", "g++", "clang++")
         for standard in ["-std=c++98", "-std=c++17"]:
-            built.done([self.compiled("calls.c", "-x", "c++", standard, compiler=compiler), built.PRACTICE])
+            clib.done([self.compiled("calls.c", "-x", "c++", standard, compiler=compiler), clib.PRACTICE])
 
     def test_calls_of_the_shared_library(self) -> None:
-        ending = [f"-L{built.FOLDER}", f"-Wl,-rpath,{built.FOLDER}", "-l:libnr.so.3"]
-        built.done([self.compiled("calls.c", ending=ending), built.PRACTICE])
+        ending = [f"-L{clib.FOLDER}", f"-Wl,-rpath,{clib.FOLDER}", "-l:libnr.so.3"]
+        clib.done([self.compiled("calls.c", ending=ending), clib.PRACTICE])
 
     def test_an_older_library(self) -> None:
         """A program that uses a function of a later release is not started with this library, rather than ended when it calls."""
-        text = (built.C / "nr.map").read_text()
+        text = (clib.C / "nr.map").read_text()
         later = re.sub(r" +nr_match;\n", "", text) + "\nNR_99 {\n    global:\n        nr_match;\n} NR_0.3;\n"
         (self.folder / "later.map").write_text(later)
         words = ["-shared", "-Wl,-soname,libnr.so.3", "-Wl,--version-script,later.map", "-o", "libnr.so.3"]
-        built.done([built.compiler(), *words, *sorted((built.FOLDER / "objects").glob("*.o"))], self.folder)
+        clib.done([clib.compiler(), *words, *sorted((clib.FOLDER / "objects").glob("*.o"))], self.folder)
         ending = [f"-L{self.folder}", "-l:libnr.so.3"]
         for name, call in {"older": "nr_version()", "later": "nr_match(0, 0, 0, 0, 0)"}.items():
             program = f'#include <stdio.h>\n#include <nr.h>\nint main(void) {{ return puts("starts") < 0 || !{call}; }}\n'
             (self.folder / f"{name}.c").write_text(program)
             path = self.compiled(self.folder / f"{name}.c", ending=ending)
-            status, said = built.ran([path], environment={**os.environ, "LD_LIBRARY_PATH": str(built.FOLDER)})
+            status, said = clib.ran([path], environment={**os.environ, "LD_LIBRARY_PATH": str(clib.FOLDER)})
             self.assertEqual((status == 0, b"starts" in said, b"NR_99" in said), (name == "older", name == "older", name == "later"))
 
     def test_calls_under_sanitizers(self) -> None:
         (self.folder / "nothing.c").write_text("int main(void) { return 0; }\n")
-        words = [built.compiler(), *SANITIZERS, "nothing.c", "-o", "nothing"]
-        if built.ran(words, self.folder)[0] or built.ran(["./nothing"], self.folder)[0]:
-            self.skipTest(f"{built.compiler()} links no program with {SANITIZERS[0]}")
-        for source, table in [("calls.c", built.PRACTICE), ("threads.c", self.both_graphs())]:
-            built.done([self.compiled(source, *SANITIZERS, "-pthread"), table])
+        words = [clib.compiler(), *SANITIZERS, "nothing.c", "-o", "nothing"]
+        if clib.ran(words, self.folder)[0] or clib.ran(["./nothing"], self.folder)[0]:
+            self.skipTest(f"{clib.compiler()} links no program with {SANITIZERS[0]}")
+        for source, table in [("calls.c", clib.PRACTICE), ("threads.c", self.both_graphs())]:
+            clib.done([self.compiled(source, *SANITIZERS, "-pthread"), table])
 
     def test_calls_under_valgrind(self) -> None:
-        built.needs("valgrind")
-        words = ["valgrind", "-q", "--error-exitcode=9", "--leak-check=full", self.compiled("calls.c", "-g"), built.PRACTICE]
-        built.done(words)
+        clib.needs("valgrind")
+        words = ["valgrind", "-q", "--error-exitcode=9", "--leak-check=full", self.compiled("calls.c", "-g"), clib.PRACTICE]
+        clib.done(words)
 
     def test_memory_refused(self) -> None:
-        output = built.done([self.compiled("refused.c", *WRAPPED), self.both_graphs()])
+        output = clib.done([self.compiled("refused.c", *WRAPPED), self.both_graphs()])
         for call in GROWING:
             self.assertRegex(output.decode(), rf"(?m)^{call}: [1-9]\d* growths refused$")
 
     def test_threads(self) -> None:
-        output = built.done([self.compiled("threads.c", "-pthread"), self.both_graphs()])
+        output = clib.done([self.compiled("threads.c", "-pthread"), self.both_graphs()])
         self.assertRegex(output.decode(), r"^4 threads, ")
 
 
@@ -114,24 +114,24 @@ class Statuses(Compiled):
 
     def test_unused(self) -> None:
         """A program that looks at no status gets a warning for each call, in C and in C++."""
-        header = (built.C / "nr.h").read_text()
+        header = (clib.C / "nr.h").read_text()
         calls = dict(re.findall(r"(?s)NrStatus (nr_\w+)\(([^)]*)\);", header))
         self.assertIn("nr_send", calls)
         lines = [f"    {name}({', '.join('0' for _ in given.split(','))});\n" for name, given in calls.items()]
         (self.folder / "unused.c").write_text("#include <nr.h>\nint main(void) {\n" + "".join(lines) + "    return 0;\n}\n")
-        for words in [[built.compiler()], [shutil.which("c++") or built.compiler(), "-x", "c++"]]:
-            said = built.ran([*words, "-c", "-o", "unused.o", f"-I{built.C}", "unused.c"], self.folder)[1].decode()
+        for words in [[clib.compiler()], [shutil.which("c++") or clib.compiler(), "-x", "c++"]]:
+            said = clib.ran([*words, "-c", "-o", "unused.o", f"-I{clib.C}", "unused.c"], self.folder)[1].decode()
             self.assertEqual(said.count("[-Wunused-result]"), len(calls), said)
 
     def test_the_document(self) -> None:
         """The lines of C in docs/c-library.md, with a table and with a text that is none."""
-        page = (built.ROOT / "docs" / "c-library.md").read_text()
+        page = (clib.ROOT / "docs" / "c-library.md").read_text()
         lines = page.partition("```c\n")[2].partition("```")[0]
         self.assertIn("nr_send", lines)
-        (self.folder / "document.c").write_text(DOCUMENT.format(checked=built.HERE / "checked.h", lines=lines))
+        (self.folder / "document.c").write_text(DOCUMENT.format(checked=clib.HERE / "checked.h", lines=lines))
         program = self.compiled(self.folder / "document.c")
-        self.assertEqual(built.done([program, built.PRACTICE]), b"0\n")
-        self.assertEqual(built.done([program, built.ROOT / "README.md"]), b"error: Fields\n22\n")
+        self.assertEqual(clib.done([program, clib.PRACTICE]), b"0\n")
+        self.assertEqual(clib.done([program, clib.ROOT / "README.md"]), b"error: Fields\n22\n")
 
 
 class Examples(Compiled):
@@ -144,18 +144,18 @@ class Examples(Compiled):
         self.assertRegex(output.decode(), "(?s)delivered.*123456789")
 
     def test_c(self) -> None:
-        program = self.compiled(built.C / "examples" / "erasures.c")
-        self.check(built.done([program, built.PRACTICE]))
-        self.assertEqual(built.ran([program])[0], 2)
+        program = self.compiled(clib.C / "examples" / "erasures.c")
+        self.check(clib.done([program, clib.PRACTICE]))
+        self.assertEqual(clib.ran([program])[0], 2)
         for path in ("none", self.folder):
-            self.assertEqual(built.ran([program, path]), (1, b"refused: Read\n"))
+            self.assertEqual(clib.ran([program, path]), (1, b"refused: Read\n"))
 
     def test_python(self) -> None:
-        self.check(built.done([sys.executable, built.C / "examples" / "erasures.py", built.PRACTICE], environment=built.for_python()))
+        self.check(clib.done([sys.executable, clib.C / "examples" / "erasures.py", clib.PRACTICE], environment=clib.for_python()))
 
     def make(self, *words: str) -> None:
-        built.needs("make")
-        built.done(["make", "-C", built.C, f"NR_C={built.archive()}", f"OUT={self.folder / 'made'}", *words])
+        clib.needs("make")
+        clib.done(["make", "-C", clib.C, f"NR_C={clib.archive()}", f"OUT={self.folder / 'made'}", *words])
 
     def test_installed(self) -> None:
         stage = self.folder / "a stage"
@@ -163,12 +163,12 @@ class Examples(Compiled):
         found = {str(path.relative_to(stage / "usr")) for path in stage.glob("**/*") if not path.is_dir()}
         names = ["libnr.a", "libnr.so", "libnr.so.3", "pkgconfig/nr.pc", "cmake/nr/nrConfig.cmake"]
         names.append("cmake/nr/nrConfigVersion.cmake")
-        if making.FASTER.exists() and built.archive() == making.ARCHIVE:
+        if making.FASTER.exists() and clib.archive() == making.ARCHIVE:
             names += [f"glibc-hwcaps/{making.LEVEL}/{name}" for name in ("libnr.a", "libnr.so.3")]
-        packages = {f"share/nr/{path.relative_to(top)}" for top in map(pathlib.Path, built.PACKAGES)
+        packages = {f"share/nr/{path.relative_to(top)}" for top in map(pathlib.Path, clib.PACKAGES)
                     for path in top.glob("*/**/*.*") if path.parts[len(top.parts)] in ("nr", "linksim_tools")
                     and path.suffix in (".py", ".typed", ".txt", ".js", ".css")}
-        both = built.DRAWN.read_bytes() + built.PRACTICE.read_bytes()
+        both = clib.DRAWN.read_bytes() + clib.PRACTICE.read_bytes()
         for name in ("nr", "rust", "octave"):
             self.assertEqual((stage / "usr" / "share" / "nr" / name / "practice.csv").read_bytes(), both)
         packages |= {"share/nr/nr/practice.csv"}
@@ -184,34 +184,34 @@ class Examples(Compiled):
 
     def test_page(self) -> None:
         """The lines of docs/c-library.md that install, link and run."""
-        lines = re.findall(r"(?ms)^```sh\n(.*?)^```$", (built.ROOT / "docs" / "c-library.md").read_text())[0]
+        lines = re.findall(r"(?ms)^```sh\n(.*?)^```$", (clib.ROOT / "docs" / "c-library.md").read_text())[0]
         self.assertIn("pkg-config", lines)
         for name in ("c", "examples", "VERSION"):
-            (self.folder / name).symlink_to(built.ROOT / name)
-        flags = f"OUT={self.folder / 'made'} NR_C={built.archive()}"
+            (self.folder / name).symlink_to(clib.ROOT / name)
+        flags = f"OUT={self.folder / 'made'} NR_C={clib.archive()}"
         environment = {**os.environ, "HOME": str(self.folder), "MAKEFLAGS": flags, "LD_LIBRARY_PATH": ""}
-        built.needs("make"), built.needs("pkg-config")
-        said = built.done(["sh", "-e", "-c", lines], self.folder, environment).decode()
+        clib.needs("make"), clib.needs("pkg-config")
+        said = clib.done(["sh", "-e", "-c", lines], self.folder, environment).decode()
         self.assertEqual(said.count("123456789"), 3)
 
     def test_pkg_config(self) -> None:
-        built.needs("pkg-config")
+        clib.needs("pkg-config")
         self.make("install", f"PREFIX={self.folder}")
         library = self.folder / "lib"
         environment = {**os.environ, "PKG_CONFIG_PATH": str(library / "pkgconfig"), "LD_LIBRARY_PATH": str(library)}
-        flags = built.done(["pkg-config", "--cflags", "--libs", "nr"], environment=environment).decode().split()
+        flags = clib.done(["pkg-config", "--cflags", "--libs", "nr"], environment=environment).decode().split()
         program = self.folder / "erasures"
-        built.done([built.compiler(), built.C / "examples" / "erasures.c", "-o", program, *flags])
-        self.check(built.done([program, built.PRACTICE], environment=environment))
+        clib.done([clib.compiler(), clib.C / "examples" / "erasures.c", "-o", program, *flags])
+        self.check(clib.done([program, clib.PRACTICE], environment=environment))
 
     def test_installed_module(self) -> None:
         """The module finds the library that is installed with it."""
         self.make("install", f"PREFIX={self.folder}")
-        environment = {**built.for_python(), "NR_LIBRARY": "", "PYTHONPATH": str(self.folder / "share" / "nr")}
-        self.check(built.done([sys.executable, built.C / "examples" / "erasures.py", built.PRACTICE], environment=environment))
+        environment = {**clib.for_python(), "NR_LIBRARY": "", "PYTHONPATH": str(self.folder / "share" / "nr")}
+        self.check(clib.done([sys.executable, clib.C / "examples" / "erasures.py", clib.PRACTICE], environment=environment))
 
 
-VERSION = (built.ROOT / "VERSION").read_text().strip()
+VERSION = (clib.ROOT / "VERSION").read_text().strip()
 # Configures once, for the versions, the folder of the header and both targets.
 LISTS = """cmake_minimum_required(VERSION 3.10)
 project(erasures C)
@@ -234,9 +234,9 @@ class Installed(Compiled):
     """In folders of a name with a space."""
 
     def install(self, prefix: pathlib.Path, *words: str) -> None:
-        built.needs("make")
-        given = [f"NR_C={built.archive()}", f"KIT_C={built.allocator()}", f"OUT={self.folder / 'made'}", f"PREFIX={prefix}"]
-        built.done(["make", "-C", built.C, "install", *given, *words])
+        clib.needs("make")
+        given = [f"NR_C={clib.archive()}", f"KIT_C={clib.allocator()}", f"OUT={self.folder / 'made'}", f"PREFIX={prefix}"]
+        clib.done(["make", "-C", clib.C, "install", *given, *words])
 
     def versions(self) -> typing.Any:
         """Versions that are asked for, and whether each is met: the interface's, the project's and others."""
@@ -248,13 +248,13 @@ class Installed(Compiled):
 
     def configured(self, search: typing.Any) -> typing.Any:
         """What CMake says of a project that finds the library by these prefixes, and the folder of what it builds."""
-        built.needs("cmake")
+        clib.needs("cmake")
         source, asked = self.folder / "source", self.versions()
         source.mkdir()
-        lists = LISTS.format(versions=" ".join(asked), example=built.C / "examples" / "erasures.c")
+        lists = LISTS.format(versions=" ".join(asked), example=clib.C / "examples" / "erasures.c")
         (source / "CMakeLists.txt").write_text(lists)
         prefixes = "-DCMAKE_PREFIX_PATH=" + ";".join(map(str, search))
-        said = built.done(["cmake", "-S", source, "-B", source / "build", prefixes]).decode()
+        said = clib.done(["cmake", "-S", source, "-B", source / "build", prefixes]).decode()
         for version, is_met in asked.items():
             # One that is not met is answered by the interface's number too.
             self.assertIn(f"version {version}: {is_met} {VERSION}{'' if is_met == '1' else ' (interface 3)'}\n", said)
@@ -275,9 +275,9 @@ class Installed(Compiled):
         self.assertIn(f"included: {prefix / 'include'}\n", said)
         cache = (folder / "CMakeCache.txt").read_text()
         self.assertNotIn(str(prefix / "include"), cache)
-        built.done(["cmake", "--build", folder])
+        clib.done(["cmake", "--build", folder])
         for target in ["nr", "static"]:
-            self.assertIn(b"123456789", built.done([folder / target, built.PRACTICE]))
+            self.assertIn(b"123456789", clib.done([folder / target, clib.PRACTICE]))
 
     def test_other_folders(self) -> None:
         """Folders of the header and of the libraries that are named, and moved together afterwards."""
@@ -289,14 +289,14 @@ class Installed(Compiled):
 
     def test_pkg_config(self) -> None:
         """The flags of a prefix with a space, as a shell reads them."""
-        built.needs("pkg-config")
+        clib.needs("pkg-config")
         prefix = self.folder / "a prefix"
         self.install(prefix)
-        program, source = self.folder / "erasures", built.C / "examples" / "erasures.c"
-        line = f'PKG_CONFIG_PATH="$1" && export PKG_CONFIG_PATH && eval {built.compiler()} {source} -o {program} $(pkg-config --cflags --libs nr)'
-        built.done(["sh", "-c", line, "sh", prefix / "lib" / "pkgconfig"])
+        program, source = self.folder / "erasures", clib.C / "examples" / "erasures.c"
+        line = f'PKG_CONFIG_PATH="$1" && export PKG_CONFIG_PATH && eval {clib.compiler()} {source} -o {program} $(pkg-config --cflags --libs nr)'
+        clib.done(["sh", "-c", line, "sh", prefix / "lib" / "pkgconfig"])
         environment = {"LD_LIBRARY_PATH": str(prefix / "lib")}
-        self.assertIn(b"123456789", built.done([program, built.PRACTICE], environment=environment))
+        self.assertIn(b"123456789", clib.done([program, clib.PRACTICE], environment=environment))
 
 
 class Beside(Compiled):
@@ -306,6 +306,6 @@ class Beside(Compiled):
         names = ["rattle_alloc", "rattle_realloc", "rattle_dealloc"]
         other = self.folder / "other.c"
         other.write_text("".join(f"void *{name}(void) {{ return 0; }}\n" for name in names))
-        built.done([built.compiler(), "-c", other, "-o", self.folder / "other.o"])
-        program = self.compiled("calls.c", ending=(self.folder / "other.o", built.STATIC))
-        built.done([program, built.PRACTICE])
+        clib.done([clib.compiler(), "-c", other, "-o", self.folder / "other.o"])
+        program = self.compiled("calls.c", ending=(self.folder / "other.o", clib.STATIC))
+        clib.done([program, clib.PRACTICE])

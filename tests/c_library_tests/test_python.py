@@ -17,10 +17,10 @@ import typing
 import unittest
 import warnings
 
-import built
+import clib
 from model import encoder
 
-PRACTICE = built.PRACTICE.read_bytes()
+PRACTICE = clib.PRACTICE.read_bytes()
 RATE = {"rate2048": 2048}
 BLOCK = b"123456789"
 BITS = encoder.bits_of(BLOCK)
@@ -49,8 +49,8 @@ class Typed(unittest.TestCase):
     """What a type checker finds."""
 
     def test_annotations(self) -> None:
-        self.assertEqual((built.C / "nr" / "py.typed").read_bytes(), b"")
-        for path in sorted((built.C / "nr").glob("*.py")):
+        self.assertEqual((clib.C / "nr" / "py.typed").read_bytes(), b"")
+        for path in sorted((clib.C / "nr").glob("*.py")):
             for it in ast.walk(ast.parse(path.read_text())):
                 if isinstance(it, (ast.FunctionDef, ast.Lambda)):
                     given = it.args
@@ -62,18 +62,18 @@ class Typed(unittest.TestCase):
     def test_checked(self) -> None:
         """A program over the module, and one that gives it a wrong type."""
         checker = [sys.executable, "-m", "mypy"]
-        if built.ran([*checker, "--version"])[0]:
+        if clib.ran([*checker, "--version"])[0]:
             self.skipTest("no mypy")
         wrong = ["nr.plan('8', rate2048=1)\n", "text: str = nr.send_many(nr.Table(b''), [b'1'], nr.Tx(g=4), rate=1)\n"]
         for program, status in [(TYPED, 0), *((TYPED + it, 1) for it in wrong)]:
             if "numpy" in program:
-                built.numpy()
+                clib.numpy()
             words = [*checker, "--strict", "--cache-dir=/dev/null", "-c", program]
-            found, said = built.ran(words, environment={**os.environ, "MYPYPATH": str(built.C)})
+            found, said = clib.ran(words, environment={**os.environ, "MYPYPATH": str(clib.C)})
             self.assertEqual(found, status, said)
 
 
-class Pickled(built.OfModule):
+class Pickled(clib.OfModule):
     """Copies, and worker processes."""
 
     def setUp(self) -> None:
@@ -105,21 +105,21 @@ class Pickled(built.OfModule):
         """Entries that are no table are refused by the calls."""
         again = copy.copy(self.table)
         again.__setstate__((0, 105, bytes(22 * 105)))
-        self.assertEqual(built.fault_of(self.nr.send, again, BLOCK, self.tx, **RATE).name, "Entries")
+        self.assertEqual(clib.fault_of(self.nr.send, again, BLOCK, self.tx, **RATE).name, "Entries")
         for octets in [b"", bytes(22 * 105 - 1), bytes(22 * 106)]:
             self.assertRaises(ValueError, again.__setstate__, (0, 105, octets))
 
     def test_workers(self) -> None:
         ways = ["fork", "spawn"]
-        words = [sys.executable, built.HERE / "pooled.py", built.PRACTICE, *ways]
-        self.assertEqual(built.done(words, environment=built.for_python()).decode().count("20 delivered"), len(ways))
+        words = [sys.executable, clib.HERE / "workers.py", clib.PRACTICE, *ways]
+        self.assertEqual(clib.done(words, environment=clib.for_python()).decode().count("20 delivered"), len(ways))
 
 
 class Faults(unittest.TestCase):
     """What a refusal says."""
 
     def test_sentences(self) -> None:
-        nr = built.module()
+        nr = clib.module()
         from nr import _faults
 
         known = {status for status in range(1000) if nr.fault_name(status) != "unknown"}
@@ -143,11 +143,11 @@ class Faults(unittest.TestCase):
                 call()
             again = pickle.loads(pickle.dumps(raised.exception))
             self.assertEqual((again.status, again.sentence), (56, raised.exception.sentence))
-        self.assertIn("nr.Error: Size: ", built.ran(
-            [sys.executable, "-c", "import nr; nr.plan(9, rate2048=1)"], environment=built.for_python())[1].decode())
+        self.assertIn("nr.Error: Size: ", clib.ran(
+            [sys.executable, "-c", "import nr; nr.plan(9, rate2048=1)"], environment=clib.for_python())[1].decode())
 
 
-class Given(built.OfModule):
+class Given(clib.OfModule):
     """Transmissions, rates and bits as they are given."""
 
     def setUp(self) -> None:
@@ -280,21 +280,21 @@ class Given(built.OfModule):
         self.assertEqual(repr(big), "Received(outcomes=[DELIVERED], left=[0], block=<100 octets>)")
         self.assertEqual(repr(receiver.take(nr.Tx(4), bytes([2] * 4))), "Taken(outcome=OPEN, left=[88], block=None)")
         self.assertEqual((dir(nr), len({self.table, nr.Table.practice()})), (sorted([*nr.__all__, *nr.RESULTS]), 2))
-        self.assertEqual(nr.Table.practice(), nr.Table(built.DRAWN.read_bytes() + PRACTICE))
+        self.assertEqual(nr.Table.practice(), nr.Table(clib.DRAWN.read_bytes() + PRACTICE))
         for python in filter(shutil.which, ["python3", "python3.8", "python3.13"]):
             words = [python, "-c", "import nr, pydoc; print(pydoc.plain(pydoc.render_doc(nr)))"]
-            status, said = built.ran(words, environment=built.for_python())
+            status, said = clib.ran(words, environment=clib.for_python())
             self.assertTrue(status or b"Table.practice" in said and said.count(b"\n") < 350, said)
 
     def test_no_row_in_each_python(self) -> None:
         """Without numpy."""
         call = "import nr; t, x = nr.Table.practice(), nr.Tx(8); nr.receive_many(t, 8, x, nr.send_many(t, [], x, rate=1), rate=1)"
         for python in filter(shutil.which, ["python3", "python3.8", "python3.13"]):
-            alone, whole = (built.ran([python, "-S", "-c", it], environment=built.for_python()) for it in ("import nr", call))
+            alone, whole = (clib.ran([python, "-S", "-c", it], environment=clib.for_python()) for it in ("import nr", call))
             self.assertTrue(alone[0] or whole == (0, b""), whole)
 
     def test_table_of_a_file(self) -> None:
-        path = built.PRACTICE
+        path = clib.PRACTICE
         self.assertEqual(bytes(self.nr.Table.open(path)._entries), bytes(self.table._entries))
         self.assertEqual(bytes(self.nr.Table.open(str(path))._entries), bytes(self.table._entries))
         with self.assertRaisesRegex(TypeError, "Table.open"):
@@ -311,7 +311,7 @@ class Given(built.OfModule):
             self.assertEqual(self.nr.send(self.table, tx=self.tx, bits=kind(BITS), **RATE), self.sent)
         self.assertEqual(self.nr.send(self.table, None, self.tx, bits=memoryview(bytes(BITS)).cast("?"), **RATE), self.sent)
         for bits, name in [(BLOCK, "Bit"), ([2] * 8, "Bit"), (BITS[1:], "Size"), ([], "Size"), (array.array("b", [-1] * 8), "Bit")]:
-            self.assertEqual(built.fault_of(self.nr.send, self.table, tx=self.tx, bits=bits, **RATE).name, name)
+            self.assertEqual(clib.fault_of(self.nr.send, self.table, tx=self.tx, bits=bits, **RATE).name, name)
         self.assertRaises(TypeError, self.nr.send, self.table, BLOCK, self.tx, bits=BITS, **RATE)
         self.assertRaises(TypeError, self.nr.send, self.table, tx=self.tx, bits=array.array("d", BITS), **RATE)
         self.assertRaises(TypeError, self.nr.send, self.table, tx=self.tx, bits="text", **RATE)
@@ -336,8 +336,8 @@ class Numpy(unittest.TestCase):
     """The same over numpy's arrays; skipped if it is not there."""
 
     def test_bits(self) -> None:
-        numpy = built.numpy()
-        nr = built.module()
+        numpy = clib.numpy()
+        nr = clib.module()
         table, tx = nr.Table(PRACTICE), nr.Tx(g=104, qm=2)
         sent = nr.send(table, BLOCK, tx, **RATE)
         bits = numpy.unpackbits(numpy.frombuffer(BLOCK, numpy.uint8))

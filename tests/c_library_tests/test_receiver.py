@@ -7,13 +7,13 @@ import pickle
 import random
 import typing
 
-import built
+import clib
 
 RATE = {"rate2048": 2048}
 BLOCK = b"123456789"
 
 
-class Taking(built.OfModule):
+class Taking(clib.OfModule):
     def receiver(self, **more: typing.Any) -> typing.Any:
         """A receiver of a block of nine octets."""
         return self.nr.Receiver(self.table, 72, **RATE, **more)
@@ -72,7 +72,7 @@ class Taking(built.OfModule):
         ]
         for call, name in cases:
             with self.subTest(name):
-                self.assertEqual(built.fault_of(call).name, name)
+                self.assertEqual(clib.fault_of(call).name, name)
         with self.assertRaisesRegex(self.nr.Fault, "^Length: heard has the length 103, and not 104"):
             receiver.take(tx, whole[1:])
         self.assertEqual(receiver.room, room)

@@ -8,20 +8,20 @@ import struct
 import typing
 import unittest
 
-import built
+import clib
 from model import clauses, coding
-from kept import Kept, receiver_size
+from rooms import Kept, receiver_size
 
-PRACTICE = built.PRACTICE.read_bytes()
-DRAWN = built.DRAWN.read_bytes()
-TABLE = built.table(PRACTICE)
+PRACTICE = clib.PRACTICE.read_bytes()
+DRAWN = clib.DRAWN.read_bytes()
+TABLE = clib.table(PRACTICE)
 SCHEDULES = 400
 HEADER = 32
 COLUMNS = {1: 68, 2: 52}
 NOTHING = 2
 
 
-def digest(table: built.Table) -> int:
+def digest(table: clib.Table) -> int:
     """The digest of a table's entries, by the eleven numbers of each, four at a step: the higher half of 64 bits."""
     found = 14695981039346656037
     for row in table.rows:
@@ -32,7 +32,7 @@ def digest(table: built.Table) -> int:
     return found >> 32
 
 
-def header(table: built.Table, settings: typing.Any, a: int) -> bytes:
+def header(table: clib.Table, settings: typing.Any, a: int) -> bytes:
     """The octets that a room begins with."""
     numbers = coding.plan(a, settings[0])
     ncb = clauses.buffer_length(numbers, settings[1] or None)
@@ -61,7 +61,7 @@ class Record:
             at += 1
         return found
 
-    def hear(self, tx: built.Tx, heard: bytes) -> None:
+    def hear(self, tx: clib.Tx, heard: bytes) -> None:
         """A transmission, place by place."""
         scheduled = [r for r in range(self.numbers["c"]) if not tx.some or tx.blocks[r // 64] >> r % 64 & 1]
         at = 0
@@ -81,11 +81,11 @@ class Record:
 
 
 def received(
-    table: built.Table, settings: typing.Any, a: int, txs: list[built.Tx], heard: bytes
+    table: clib.Table, settings: typing.Any, a: int, txs: list[clib.Tx], heard: bytes
 ) -> tuple[int, list[int], bytes]:
     """What nr_receive writes of all transmissions so far: the last outcome, what is left, and the block."""
-    rooms = built.Room(len(txs), item=4), built.Room(coding.plan(a, settings[0])["c"], item=4), built.Room(a // 8)
-    assert built.call("nr_receive", table, settings, a, txs, heard, *rooms) == 0
+    rooms = clib.Room(len(txs), item=4), clib.Room(coding.plan(a, settings[0])["c"], item=4), clib.Room(a // 8)
+    assert clib.call("nr_receive", table, settings, a, txs, heard, *rooms) == 0
     return rooms[0].numbers()[-1], rooms[1].numbers(), rooms[2].octets()
 
 
@@ -99,15 +99,15 @@ class Case:
         rate2048 = {PRACTICE: 512, DRAWN: 2048}.get(self.text, draw.choice([2048, 512]))
         if self.text == DRAWN:
             a = max(a, 8 * 480)
-        self.settings = built.settings(rate2048, draw.choice([0, 0, 0, a + 200]))
-        self.a, self.table = a, built.table(self.text)
+        self.settings = clib.settings(rate2048, draw.choice([0, 0, 0, a + 200]))
+        self.a, self.table = a, clib.table(self.text)
         block, self.turns = bytes(draw.choices(range(256), k=a // 8)), []
         blocks = coding.plan(a, rate2048)["c"]
         for _ in range(draw.randrange(1, 6)):
             qm = draw.choice([1, 2, 4, 6, 8])
             mask = None if draw.random() < 0.8 else [draw.randrange(blocks)]
-            tx = built.tx(qm * max(blocks, (a + 24) * draw.randrange(5, 30) // 10 // qm), draw.randrange(4), qm, 1, mask)
-            heard = bytearray(built.made(tx.g, "nr_send", self.table, self.settings, block, tx))
+            tx = clib.tx(qm * max(blocks, (a + 24) * draw.randrange(5, 30) // 10 // qm), draw.randrange(4), qm, 1, mask)
+            heard = bytearray(clib.made(tx.g, "nr_send", self.table, self.settings, block, tx))
             erased, turned = draw.choice([0, 0.2, 0.5, 0.8]), draw.choice([0, 0, 0, 3])
             for place in range(tx.g):
                 if draw.random() < erased:
@@ -123,15 +123,15 @@ class Receivers(unittest.TestCase):
     def test_by_hand(self) -> None:
         """Octet 01 over the practice table: Zc is 4, so that a codeword has 52 * 4 positions, and K' is 24. The room of a new
         receiver has 2 at each position. G = 4 are positions 8 to 11; the second bit of a position is not kept."""
-        kept = Kept(TABLE, built.settings(2048), 8)
+        kept = Kept(TABLE, clib.settings(2048), 8)
         begin = struct.pack("<8I", 2, 8, 2, 4, 24, 1, 200, digest(TABLE))
         self.assertEqual(kept.status, 0)
         self.assertEqual(kept.room.octets(), begin + b"\0" + b"\2" * 208)
-        status, rooms = kept.take(built.tx(4), bytes([1, 9, 0, 1]))
+        status, rooms = kept.take(clib.tx(4), bytes([1, 9, 0, 1]))
         self.assertEqual((status, rooms[0].numbers(), rooms[1].numbers()), (0, [0], [21]))
         self.assertTrue(rooms[2].is_unwritten())
         self.assertEqual(kept.room.octets(), begin + b"\0" + b"\2" * 8 + bytes([1, 2, 0, 1]) + b"\2" * 196)
-        kept.take(built.tx(4), bytes([0, 0, 2, 2]))
+        kept.take(clib.tx(4), bytes([0, 0, 2, 2]))
         self.assertEqual(kept.room.octets(), begin + b"\1" + b"\2" * 8 + bytes([1, 0, 0, 1]) + b"\2" * 196)
 
     def test_sizes(self) -> None:
@@ -150,7 +150,7 @@ class Receivers(unittest.TestCase):
                 given = case.table, case.settings, case.a
                 kept, record = Kept(*given), Record(case.a, case.settings[0], case.settings[1])
                 heard, begin = b"", header(*given)
-                txs: list[built.Tx] = []
+                txs: list[clib.Tx] = []
                 for tx, places in case.turns:
                     copy = Kept(*given)
                     copy.put(kept.room.octets())
@@ -168,36 +168,36 @@ class Refusals(unittest.TestCase):
     """Every status by its cause. A call that is refused writes nothing."""
 
     def refused(
-        self, status: int, kept: Kept, tx: built.Tx | None = None, heard: bytes = bytes(24), **rooms: int
+        self, status: int, kept: Kept, tx: clib.Tx | None = None, heard: bytes = bytes(24), **rooms: int
     ) -> None:
         before = kept.room.octets()
-        found, written = kept.take(tx or built.tx(24), heard, **rooms)
+        found, written = kept.take(tx or clib.tx(24), heard, **rooms)
         self.assertEqual(found, status)
         self.assertEqual(kept.room.octets(), before)
         self.assertTrue(all(room.is_unwritten() for room in written))
 
-    def of(self, table: built.Table = TABLE, settings: typing.Any = None, a: int = 8) -> Kept:
+    def of(self, table: clib.Table = TABLE, settings: typing.Any = None, a: int = 8) -> Kept:
         """A receiver of octets that stays as it was put."""
-        return Kept(table, settings or built.settings(2048), a)
+        return Kept(table, settings or clib.settings(2048), a)
 
     def test_blocks(self) -> None:
         for status, settings, a in [(40, (0, 0), 7), (40, (2048, 0), 1_310_728), (41, (0, 0), 8), (45, (512, 0), 7640)]:
-            size, room = built.counter(), built.Room(0)
-            self.assertEqual(built.call("nr_receiver_size", settings[0], a, size), status)
+            size, room = clib.counter(), clib.Room(0)
+            self.assertEqual(clib.call("nr_receiver_size", settings[0], a, size), status)
             self.assertTrue(size.is_unwritten())
-            self.assertEqual(built.call("nr_receiver_start", TABLE, built.settings(*settings), a, room), status)
+            self.assertEqual(clib.call("nr_receiver_start", TABLE, clib.settings(*settings), a, room), status)
         for status, settings, a in [(46, (2048, 0), 3832), (47, (512, 1), 8 * 479)]:
-            room = built.Room(receiver_size(settings[0], a))
-            self.assertEqual(built.call("nr_receiver_start", TABLE, built.settings(*settings), a, room), status)
+            room = clib.Room(receiver_size(settings[0], a))
+            self.assertEqual(clib.call("nr_receiver_start", TABLE, clib.settings(*settings), a, room), status)
             self.assertTrue(room.is_unwritten())
-            more = built.Room(room.count + 1)
-            self.assertEqual(built.call("nr_receiver_start", TABLE, built.settings(*settings), a, more), 2)
+            more = clib.Room(room.count + 1)
+            self.assertEqual(clib.call("nr_receiver_start", TABLE, clib.settings(*settings), a, more), 2)
             self.assertTrue(more.is_unwritten())
 
     def test_rooms(self) -> None:
         kept = self.of()
         for left, block in [(0, 1), (2, 1), (1, 0), (1, 2)]:
-            self.refused(2, kept, built.tx(24, rv=4), b"", left=left, block=block)
+            self.refused(2, kept, clib.tx(24, rv=4), b"", left=left, block=block)
         kept.room.count -= 1
         self.refused(2, kept)
 
@@ -211,17 +211,17 @@ class Refusals(unittest.TestCase):
                 if place > HEADER and octet < 3 or place == HEADER and octet < 2:
                     continue
                 kept.put(new[:place] + bytes([octet]) + new[place + 1 :])
-                self.refused(8, kept, built.tx(24, rv=4), b"")
+                self.refused(8, kept, clib.tx(24, rv=4), b"")
         kept.put(new)
-        self.refused(50, kept, built.tx(24, rv=4), b"")
+        self.refused(50, kept, clib.tx(24, rv=4), b"")
 
     def test_of_others(self) -> None:
         """The room of another table, of another buffer, and of another size with as many positions (Zc is 20 for 96 bits and
         for 104)."""
         text = PRACTICE.replace(b"2,0,0,0", b"2,0,0,1", 1)
         self.assertNotEqual(text, PRACTICE)
-        smaller = built.settings(2048, 300)
-        for other in [self.of(built.table(text), a=104), self.of(settings=smaller, a=104), self.of(a=96)]:
+        smaller = clib.settings(2048, 300)
+        for other in [self.of(clib.table(text), a=104), self.of(settings=smaller, a=104), self.of(a=96)]:
             kept = self.of(a=104)
             self.assertEqual((other.status, other.room.count), (0, kept.room.count))
             kept.put(other.room.octets())
@@ -230,7 +230,7 @@ class Refusals(unittest.TestCase):
     def test_digests(self) -> None:
         """Two changes of a table's values do not cancel in the digest: 10,000 pairs of tables. Half are by 256 in sets 0 and 4.
         The first pair had one digest when higher bits were not brought down."""
-        draw, table = random.Random(1), built.table(PRACTICE + DRAWN)
+        draw, table = random.Random(1), clib.table(PRACTICE + DRAWN)
         at = {tuple(row[:3]): place for place, row in enumerate(table.rows)}
         free = [place for place, row in enumerate(table.rows) if row[2] < 10]
         before, changes = self.of(table).room.octets()[28:HEADER], [(at[1, 12, 4], 4, 256), (at[1, 38, 9], 0, 256)]
@@ -255,7 +255,7 @@ class Refusals(unittest.TestCase):
         for _ in range(50):
             kept, record = self.of(a=24), Record(24, 2048)
             record.clash, record.first = [draw.randrange(2)], [draw.choices(range(3), k=kept.room.count - HEADER - 1)]
-            begin, tx, heard = kept.room.octets()[:HEADER], built.tx(24), bytes(draw.choices(range(3), k=24))
+            begin, tx, heard = kept.room.octets()[:HEADER], clib.tx(24), bytes(draw.choices(range(3), k=24))
             kept.put(begin + record.octets())
             status, rooms = kept.take(tx, heard)
             record.hear(tx, heard)
@@ -264,18 +264,18 @@ class Refusals(unittest.TestCase):
 
     def test_transmissions(self) -> None:
         kept = self.of()
-        kept.take(built.tx(4), bytes(4))
-        for status, tx in built.WRONG:
+        kept.take(clib.tx(4), bytes(4))
+        for status, tx in clib.WRONG:
             self.refused(status, kept, tx, b"")
         for count in (0, 23, 25):
-            self.refused(56, kept, built.tx(24), bytes(count))
+            self.refused(56, kept, clib.tx(24), bytes(count))
 
     def test_entries(self) -> None:
-        rows = built.rows_of(PRACTICE)
-        for status, table in [(31, built.Table([*rows, rows[-1]])), (29, built.Table([])), (26, built.Table(rows[:1]))]:
+        rows = clib.rows_of(PRACTICE)
+        for status, table in [(31, clib.Table([*rows, rows[-1]])), (29, clib.Table([])), (26, clib.Table(rows[:1]))]:
             kept = self.of()
-            given, before = (table, built.settings(0), 7, kept.room), kept.room.octets()
-            rooms = built.struct(), built.Room(0, item=4), built.Room(0)
-            self.assertEqual(built.call("nr_receiver_start", *given), status)
-            self.assertEqual(built.call("nr_receiver_take", *given, built.tx(0, 4), b"", *rooms), status)
+            given, before = (table, clib.settings(0), 7, kept.room), kept.room.octets()
+            rooms = clib.struct(), clib.Room(0, item=4), clib.Room(0)
+            self.assertEqual(clib.call("nr_receiver_start", *given), status)
+            self.assertEqual(clib.call("nr_receiver_take", *given, clib.tx(0, 4), b"", *rooms), status)
             self.assertEqual(kept.room.octets(), before)

@@ -8,7 +8,7 @@ import hashlib
 import typing
 import unittest.mock
 
-import built
+import clib
 
 RATE = {"rate2048": 2048}
 BLOCK = b"123456789"
@@ -19,7 +19,7 @@ def seed_of(*numbers: int) -> int:
     return int.from_bytes(hashlib.sha256(" ".join(map(str, numbers)).encode()).digest()[:8], "big")
 
 
-class Stages(built.OfModule):
+class Stages(clib.OfModule):
     """What is sent of a code block, by its stages."""
 
     def test_as_sent(self) -> None:
@@ -74,7 +74,7 @@ class Stages(built.OfModule):
         self.assertEqual(nr.hard([3, -2, 0.5, -0.5, -float("inf")], 1), bytes([0, 1, 2, 2, 1]))
         for threshold in (-1, nan):
             self.assertRaises(ValueError, nr.hard, [1.0], threshold)
-        numpy = built.numpy()
+        numpy = clib.numpy()
         values = numpy.array([[3, -2, 0.5], [-0.5, 0, nan]])
         self.assertEqual((nr.hard(values, 0.5).tolist(), nr.hard(values, 0).dtype), ([[0, 1, 2], [2, 2, 2]], numpy.uint8))
         self.assertEqual(nr.hard(numpy.array([-128, 127, 0], numpy.int8), 100).tolist(), [1, 0, 2])
@@ -86,7 +86,7 @@ class Stages(built.OfModule):
             with self.assertRaisesRegex((TypeError, ValueError), "decisions|unsigned"):
                 nr.hard(given, 0)
         self.assertEqual(nr.hard([0.0, 0.0], 1), bytes([2, 2]))
-        numpy = built.numpy()
+        numpy = clib.numpy()
         sent = numpy.frombuffer(bits, numpy.uint8)
         soft = 40.0 - 80 * sent
         for given, said in [
@@ -119,7 +119,7 @@ class Stages(built.OfModule):
                 call(array.array("d", [1.0] * 104))
 
 
-class Rounds(built.OfModule):
+class Rounds(clib.OfModule):
     def by_hand(
         self, block: bytes, txs: typing.Any, chances: list[float], turn: int, **more: typing.Any
     ) -> tuple[int, list[list[int]], list[list[int]]]:
@@ -208,7 +208,7 @@ class Rounds(built.OfModule):
 
     def test_arrays(self) -> None:
         """numpy's, so that the share of rounds that fail is what everybody writes."""
-        numpy = built.numpy()
+        numpy = clib.numpy()
         tx = self.nr.Tx(g=200)
         found = self.nr.simulate(self.table, 72, tx, p=numpy.array(0.05), rounds=numpy.int64(50), seed=numpy.uint64(1), **RATE)
         same = self.nr.simulate(self.table, 72, tx, p=0.05, rounds=50, seed=1, **RATE)
@@ -222,4 +222,4 @@ class Rounds(built.OfModule):
     def test_threads(self) -> None:
         """While one thread simulates, another one of Python runs."""
         call, tx = self.nr.simulate, self.nr.Tx(g=4000)
-        self.assertTrue(built.others_run(lambda: call(self.table, 3000, tx, p=0.4, rounds=64, jobs=1, rate2048=1024)))
+        self.assertTrue(clib.others_run(lambda: call(self.table, 3000, tx, p=0.4, rounds=64, jobs=1, rate2048=1024)))

@@ -7,19 +7,19 @@ import random
 import typing
 import unittest
 
-import built
+import clib
 from model import coding
 
-PRACTICE = built.PRACTICE.read_bytes()
-TABLE = built.table(PRACTICE)
-BROKEN = built.Table([*TABLE.rows, TABLE.rows[0]])
-NONE = built.Table([])
-ONLY_ONE = built.table(built.DRAWN.read_bytes())
-SETTINGS = built.settings(2048)
+PRACTICE = clib.PRACTICE.read_bytes()
+TABLE = clib.table(PRACTICE)
+BROKEN = clib.Table([*TABLE.rows, TABLE.rows[0]])
+NONE = clib.Table([])
+ONLY_ONE = clib.table(clib.DRAWN.read_bytes())
+SETTINGS = clib.settings(2048)
 COUNT, A = 3, 72
-TXS = [built.tx(120, 0, 2), built.tx(90, 2, 2)]
+TXS = [clib.tx(120, 0, 2), clib.tx(90, 2, 2)]
 WIDTH = 210
-WRONG = built.settings(0)
+WRONG = clib.settings(0)
 
 
 def call_of(count: int) -> typing.Any:
@@ -42,25 +42,25 @@ class Rows(unittest.TestCase):
         self, status: int, table: typing.Any = TABLE, settings: typing.Any = SETTINGS, a: int = A, blocks: bytes | None = None,
         txs: typing.Any = TXS, room: int = COUNT * WIDTH,
     ) -> bytes:
-        out, given = built.Room(room), b"".join(self.blocks) if blocks is None else blocks
-        self.assertEqual(built.call("nr_send_many", table, settings, a, list(txs), call_of(COUNT), given, out), status)
+        out, given = clib.Room(room), b"".join(self.blocks) if blocks is None else blocks
+        self.assertEqual(clib.call("nr_send_many", table, settings, a, list(txs), call_of(COUNT), given, out), status)
         self.assertEqual(out.is_unwritten(), status != 0 or not room)
         return out.octets()
 
     def test_sent(self) -> None:
         """Each row has the bits of all transmissions, one after the other; of none it is empty."""
-        lists: list[list[built.Tx]] = [TXS, TXS[:1], TXS[1:], TXS[::-1], []]
+        lists: list[list[clib.Tx]] = [TXS, TXS[:1], TXS[1:], TXS[::-1], []]
         for txs in lists:
             wanted = b"".join(coding.sent(PRACTICE, block, tx, 2048) for block in self.blocks for tx in txs)
             self.assertEqual(self.sent(0, txs=txs, room=len(wanted)), wanted)
 
     def test_not_sent(self) -> None:
-        bad = [TXS[0], built.tx(0, 4)]
+        bad = [TXS[0], clib.tx(0, 4)]
         cases: list[tuple[int, dict[str, typing.Any]]] = [
             (31, {"table": BROKEN, "a": 7}), (29, {"table": NONE, "a": 7}), (3, {"a": 7, "txs": TXS * 501}),
             (40, {"settings": WRONG, "a": 7}), (40, {"settings": WRONG, "blocks": bytes(COUNT * 9 - 1)}),
             (41, {"settings": WRONG, "txs": bad}), (46, {"table": ONLY_ONE, "txs": bad}), (50, {"txs": bad, "room": 0}),
-            (54, {"txs": [built.tx(121, 0, 2), *bad], "room": 363}), (2, {"room": COUNT * WIDTH - 1}),
+            (54, {"txs": [clib.tx(121, 0, 2), *bad], "room": 363}), (2, {"room": COUNT * WIDTH - 1}),
             (2, {"room": COUNT * WIDTH + 1}), (2, {"room": COUNT * 120}),
         ]
         for status, more in cases:
@@ -71,9 +71,9 @@ class Rows(unittest.TestCase):
         self, status: int, table: typing.Any = TABLE, settings: typing.Any = SETTINGS, a: int = A, heard: bytes | None = None,
         txs: typing.Any = TXS, rooms: tuple[int, int, int] = (2 * COUNT, COUNT, 9 * COUNT),
     ) -> tuple[list[int], list[int], bytes]:
-        places = [built.Room(rooms[0], item=4), built.Room(rooms[1], item=4), built.Room(rooms[2])]
+        places = [clib.Room(rooms[0], item=4), clib.Room(rooms[1], item=4), clib.Room(rooms[2])]
         given = b"".join(self.rows) if heard is None else heard
-        found = built.call("nr_receive_many", table, settings, a, list(txs), call_of(COUNT), given, *places)
+        found = clib.call("nr_receive_many", table, settings, a, list(txs), call_of(COUNT), given, *places)
         self.assertEqual(found, status)
         if status:
             self.assertTrue(all(place.is_unwritten() for place in places))
@@ -83,8 +83,8 @@ class Rows(unittest.TestCase):
         """Each row says what nr_receive says of it alone, and no block stands where none is delivered."""
         outcomes, left, blocks = self.received(0)
         for at, row in enumerate(self.rows):
-            rooms = built.Room(2, item=4), built.Room(1, item=4), built.Room(9)
-            self.assertEqual(built.call("nr_receive", TABLE, SETTINGS, A, TXS, row, *rooms), 0)
+            rooms = clib.Room(2, item=4), clib.Room(1, item=4), clib.Room(9)
+            self.assertEqual(clib.call("nr_receive", TABLE, SETTINGS, A, TXS, row, *rooms), 0)
             self.assertEqual(outcomes[2 * at : 2 * at + 2], rooms[0].numbers())
             self.assertEqual(left[at], rooms[1].numbers()[0])
             if outcomes[2 * at + 1] == 1:
@@ -93,7 +93,7 @@ class Rows(unittest.TestCase):
         self.assertNotEqual(outcomes[-1], 1)
 
     def test_not_received(self) -> None:
-        bad = [built.tx(0, 4)]
+        bad = [clib.tx(0, 4)]
         cases: list[tuple[int, dict[str, typing.Any]]] = [
             (31, {"table": BROKEN, "a": 7}), (29, {"table": NONE, "a": 7}), (3, {"a": 7, "txs": TXS * 501}),
             (40, {"settings": WRONG, "a": 7, "rooms": (0, 0, 0)}), (41, {"settings": WRONG, "rooms": (0, 0, 0)}),

@@ -8,13 +8,13 @@ import pathlib
 import random
 import typing
 
-import built
+import clib
 from model import encoder
-from kept import Kept
+from rooms import Kept
 
 SCHEDULES = 300
-PRACTICE = built.PRACTICE.read_bytes()
-DRAWN = built.DRAWN.read_bytes()
+PRACTICE = clib.PRACTICE.read_bytes()
+DRAWN = clib.DRAWN.read_bytes()
 HEADER = "block,rv,g,qm,nl,erase,flip,mask\n"
 
 
@@ -59,11 +59,11 @@ class Case:
             ",".join(map(str, (block + 1, *numbers, field(erased), field(flipped)))) + f",{'all' if mask is None else field(mask)}\n"
             for block, numbers, erased, flipped, mask in self.transmissions
         ]
-        return built.link_words(folder, self.table, (self.rate2048, self.lbrm), self.blocks, HEADER + "".join(lines))
+        return clib.link_words(folder, self.table, (self.rate2048, self.lbrm), self.blocks, HEADER + "".join(lines))
 
     def lines(self) -> typing.Any:
         """The lines that the program is to write by the library, or the one with which it refuses."""
-        nr, link = built.module(), {"rate2048": self.rate2048, "lbrm": self.lbrm}
+        nr, link = clib.module(), {"rate2048": self.rate2048, "lbrm": self.lbrm}
         table = nr.Table(self.table)
         lines: list[str] = []
         taken: list[list[typing.Any]] = [[] for _ in self.blocks]
@@ -72,7 +72,7 @@ class Case:
                 nr.receive(table, 8 * len(block), [], **link)
             except nr.Fault as fault:
                 return [f"linksim: refused: block {number} {fault.name}"]
-        given = built.table(self.table), built.settings(self.rate2048, self.lbrm)
+        given = clib.table(self.table), clib.settings(self.rate2048, self.lbrm)
         kept = [Kept(*given, 8 * len(block)) for block in self.blocks]
         outcomes: list[list[int]] = [[] for _ in self.blocks]
         for number, (n, (rv, g, qm, nl), erased, flipped, mask) in enumerate(self.transmissions, 1):
@@ -90,7 +90,7 @@ class Case:
                 bits[place] = nr.ERASED
             taken[n].append((tx, bits))
             left = nr.receive(table, 8 * len(self.blocks[n]), taken[n], **link).left
-            status, (outcome, of_kept, _) = kept[n].take(built.tx(g, rv, qm, nl, mask), bytes(bits))
+            status, (outcome, of_kept, _) = kept[n].take(clib.tx(g, rv, qm, nl, mask), bytes(bits))
             assert (status, of_kept.numbers()) == (0, list(left)), f"another receiver after transmission {number}"
             outcomes[n] += outcome.numbers()
             lines += [f"left {number} {n + 1} {r} {count}" for r, count in enumerate(left)]
@@ -115,15 +115,15 @@ def last_line(
     return f"block {number} {answer.outcome.name.lower()} tx {len(receptions)} failed {failed} of {len(answer.left)}{octets}"
 
 
-class Schedules(built.InFolder):
+class Schedules(clib.InFolder):
     """The program's text and the library's answers."""
 
     def test_random(self) -> None:
-        program, said = built.program(), ""
+        program, said = clib.program(), ""
         for seed in range(SCHEDULES):
             with self.subTest(seed=seed):
                 case = Case(seed)
-                text = built.ran([program, "run", *case.files(self.folder)])[1].decode()
+                text = clib.ran([program, "run", *case.files(self.folder)])[1].decode()
                 self.assertEqual([line for line in text.splitlines() if not line.startswith("total ")], case.lines())
                 said += text
         for word in ["sent", "refused", "open", "delivered", "contradiction", "Graph", "NoBuffer", "Ragged", "NoneScheduled"]:

@@ -8,14 +8,14 @@ import random
 import typing
 import unittest
 
-import built
+import clib
 from model import clauses, coding, pcg
 
-PRACTICE = built.PRACTICE.read_bytes()
-DRAWN = built.DRAWN.read_bytes()
-BOTH = built.table(PRACTICE + DRAWN)
+PRACTICE = clib.PRACTICE.read_bytes()
+DRAWN = clib.DRAWN.read_bytes()
+BOTH = clib.table(PRACTICE + DRAWN)
 HEADER = "block,rv,g,qm,nl,erase,flip,mask,process,fresh\n"
-SETTINGS = built.settings(2048)
+SETTINGS = clib.settings(2048)
 SCHEDULES = 40
 
 
@@ -33,19 +33,19 @@ class Case:
         self.rounds = rounds or draw.randrange(1, 5)
         self.seeds = array.array("Q", [draw.getrandbits(64) for _ in range(self.rounds * len(self.txs))])
 
-    def drawn(self, draw: random.Random) -> built.Tx:
+    def drawn(self, draw: random.Random) -> clib.Tx:
         """A transmission, of all code blocks or of some."""
         qm, nl, c = draw.choice([1, 2, 4, 6, 8]), draw.choice([1, 1, 2, 3]), self.plan["c"]
         g = qm * nl * (draw.randrange(4 * len(self.block), 24 * len(self.block) + 40) // (qm * nl) + 1)
         blocks = sorted(draw.sample(range(c), draw.randrange(1, c + 1))) if draw.random() < 0.3 else None
-        return built.tx(g, draw.choice([0, 0, 1, 2, 3]), qm, nl, blocks)
+        return clib.tx(g, draw.choice([0, 0, 1, 2, 3]), qm, nl, blocks)
 
     def simulated(self) -> tuple[list[int], list[list[int]], list[list[int]]]:
         """By the library: after how many transmissions each round is delivered, and rows of what is left and of what is erased."""
         count, c = len(self.seeds), self.plan["c"]
-        rooms = built.Room(self.rounds, item=4), built.Room(count * c, item=4), built.Room(count * c, item=4)
-        given = BOTH, built.settings(self.rate2048, self.lbrm), 8 * len(self.block), self.txs, self.thresholds, self.seeds
-        status = built.call("nr_simulate", *given, *rooms)
+        rooms = clib.Room(self.rounds, item=4), clib.Room(count * c, item=4), clib.Room(count * c, item=4)
+        given = BOTH, clib.settings(self.rate2048, self.lbrm), 8 * len(self.block), self.txs, self.thresholds, self.seeds
+        status = clib.call("nr_simulate", *given, *rooms)
         assert status == 0, f"status {status}"
         delivered, left, erased = (room.numbers() for room in rooms)
         return delivered, rows_of(left, c), rows_of(erased, c)
@@ -64,8 +64,8 @@ class Case:
 
     def run(self, folder: pathlib.Path) -> tuple[list[list[int]], list[str]]:
         """By the program: rows of what is left after each transmission, and how each round ends."""
-        files = built.link_words(folder, PRACTICE + DRAWN, (self.rate2048, self.lbrm), [self.block], self.schedule())
-        lines = built.done([built.program(), "run", *files]).decode()
+        files = clib.link_words(folder, PRACTICE + DRAWN, (self.rate2048, self.lbrm), [self.block], self.schedule())
+        lines = clib.done([clib.program(), "run", *files]).decode()
         words = [line.split() for line in lines.splitlines()]
         left = [int(it[4]) for it in words if it[0] == "left"]
         return rows_of(left, self.plan["c"]), [it[4] for it in words if it[0] == "process"]
@@ -87,7 +87,7 @@ def rows_of(numbers: list[int], count: int) -> list[list[int]]:
     return [numbers[at : at + count] for at in range(0, len(numbers), count)]
 
 
-class Simulations(built.InFolder):
+class Simulations(clib.InFolder):
     """`nr_simulate`."""
 
     def check(self, case: Case) -> None:
@@ -105,7 +105,7 @@ class Simulations(built.InFolder):
                 self.assertEqual(row, case.erased(i * len(case.txs) + k) if sent else [0] * case.plan["c"])
 
     def test_as_the_program_runs(self) -> None:
-        built.program()
+        clib.program()
         for seed in range(SCHEDULES):
             with self.subTest(seed=seed):
                 self.check(Case(seed))
@@ -122,24 +122,24 @@ class Simulations(built.InFolder):
 
     def test_by_hand(self) -> None:
         """A = 8 at rate 1: all of d fixes the 24 bits, and nothing leaves them; then one transmission is not sent."""
-        txs, seeds = [built.tx(184), built.tx(184)], array.array("Q", [1, 2])
+        txs, seeds = [clib.tx(184), clib.tx(184)], array.array("Q", [1, 2])
         for thresholds, wanted in [
             ([0, 0], ([1], [0, 0], [0, 0])),
             ([2**32 - 1, 0], ([2], [24, 0], [184, 0])),
             ([2**32 - 1, 2**32 - 1], ([0], [24, 24], [184, 184])),
         ]:
-            rooms = [built.Room(count, item=4) for count in (1, 2, 2)]
+            rooms = [clib.Room(count, item=4) for count in (1, 2, 2)]
             given = BOTH, SETTINGS, 8, txs, array.array("I", thresholds), seeds
-            self.assertEqual(built.call("nr_simulate", *given, *rooms), 0)
+            self.assertEqual(clib.call("nr_simulate", *given, *rooms), 0)
             self.assertEqual(tuple(room.numbers() for room in rooms), wanted)
 
     def test_nothing(self) -> None:
         """No rounds, and rounds of no transmission."""
-        none: list[built.Tx] = []
-        for txs, rounds in [([built.tx(24)], 0), (none, 3), (none, 0)]:
-            rooms = [built.Room(rounds, item=4), built.Room(0, item=4), built.Room(0, item=4)]
+        none: list[clib.Tx] = []
+        for txs, rounds in [([clib.tx(24)], 0), (none, 3), (none, 0)]:
+            rooms = [clib.Room(rounds, item=4), clib.Room(0, item=4), clib.Room(0, item=4)]
             given = BOTH, SETTINGS, 8, txs, array.array("I", [0] * len(txs)), array.array("Q")
-            self.assertEqual(built.call("nr_simulate", *given, *rooms), 0)
+            self.assertEqual(clib.call("nr_simulate", *given, *rooms), 0)
             self.assertEqual(rooms[0].numbers(), [0] * rounds)
 
 
@@ -147,32 +147,32 @@ class Refused(unittest.TestCase):
     """The statuses, by their causes in order."""
 
     def refused(
-        self, status: int, table: typing.Any = BOTH, settings: typing.Any = SETTINGS, a: int = 8, txs: typing.Any = (built.tx(24),),
+        self, status: int, table: typing.Any = BOTH, settings: typing.Any = SETTINGS, a: int = 8, txs: typing.Any = (clib.tx(24),),
         thresholds: int = 1, seeds: int = 2, rooms: tuple[int, int, int] = (2, 2, 2),
     ) -> None:
         """The rooms are those for the rounds, for what is left, and for what is erased."""
-        places = [built.Room(count, item=4) for count in rooms]
+        places = [clib.Room(count, item=4) for count in rooms]
         given = table, settings, a, list(txs), array.array("I", [0] * thresholds), array.array("Q", [0] * seeds)
-        self.assertEqual(built.call("nr_simulate", *given, *places), status)
+        self.assertEqual(clib.call("nr_simulate", *given, *places), status)
         for place in places:
             self.assertTrue(place.is_unwritten())
 
     def test_lists(self) -> None:
-        self.refused(31, built.Table([*BOTH.rows, BOTH.rows[0]]), built.settings(0), 7, [built.tx(0, 4)] * 1001)
-        self.refused(29, built.Table([]), built.settings(0), 7)
-        self.refused(40, settings=built.settings(0), a=7, txs=[built.tx(0, 4)] * 1001)
-        self.refused(41, settings=built.settings(0), txs=[built.tx(0, 4)] * 1001)
-        self.refused(3, txs=[built.tx(0, 4)] * 1001, thresholds=0)
+        self.refused(31, clib.Table([*BOTH.rows, BOTH.rows[0]]), clib.settings(0), 7, [clib.tx(0, 4)] * 1001)
+        self.refused(29, clib.Table([]), clib.settings(0), 7)
+        self.refused(40, settings=clib.settings(0), a=7, txs=[clib.tx(0, 4)] * 1001)
+        self.refused(41, settings=clib.settings(0), txs=[clib.tx(0, 4)] * 1001)
+        self.refused(3, txs=[clib.tx(0, 4)] * 1001, thresholds=0)
         for thresholds, seeds in [(0, 2), (2, 2), (1, 1), (1, 3), (1, 0)]:
-            self.refused(56, txs=[built.tx(0, 4)], thresholds=thresholds, seeds=seeds, rooms=(2, 0, 0))
+            self.refused(56, txs=[clib.tx(0, 4)], thresholds=thresholds, seeds=seeds, rooms=(2, 0, 0))
         for rooms in [(2, 1, 2), (2, 3, 2), (2, 2, 1), (2, 2, 3), (2, 0, 0)]:
-            self.refused(2, built.table(DRAWN), txs=[built.tx(0, 4)], rooms=rooms)
+            self.refused(2, clib.table(DRAWN), txs=[clib.tx(0, 4)], rooms=rooms)
 
     def test_links(self) -> None:
-        self.refused(46, built.table(DRAWN), txs=[built.tx(0, 4)])
-        self.refused(47, settings=built.settings(512, 1), a=8 * 479, txs=[built.tx(0, 4)], rooms=(2, 4, 4))
+        self.refused(46, clib.table(DRAWN), txs=[clib.tx(0, 4)])
+        self.refused(47, settings=clib.settings(512, 1), a=8 * 479, txs=[clib.tx(0, 4)], rooms=(2, 4, 4))
 
     def test_transmissions(self) -> None:
-        for status, tx in built.WRONG:
+        for status, tx in clib.WRONG:
             self.refused(status, txs=[tx])
-            self.refused(status, txs=[built.tx(24), tx, built.tx(0, 4)], thresholds=3, seeds=6, rooms=(2, 6, 6))
+            self.refused(status, txs=[clib.tx(24), tx, clib.tx(0, 4)], thresholds=3, seeds=6, rooms=(2, 6, 6))

@@ -12,9 +12,9 @@ import typing
 import unittest
 import unittest.mock
 
-import built
+import clib
 
-BOTH = built.DRAWN.read_bytes() + built.PRACTICE.read_bytes()
+BOTH = clib.DRAWN.read_bytes() + clib.PRACTICE.read_bytes()
 # A, the code rate in 2048ths, G, rv, Qm, NL, the code blocks that are sent, and TBS_LBRM.
 LINKS: list[tuple[int, int, int, int, int, int, list[int] | None, int | None]] = [
     (8, 2048, 40, 0, 2, 1, None, None), (72, 1024, 301, 3, 1, 1, None, 300), (72, 682, 1800, 1, 6, 1, None, None),
@@ -25,8 +25,8 @@ LINKS: list[tuple[int, int, int, int, int, int, list[int] | None, int | None]] =
 
 def soft_receiver() -> typing.Any:
     """The example as a module."""
-    built.module()
-    spec = importlib.util.spec_from_file_location("soft_receiver", built.ROOT / "examples" / "soft_receiver.py")
+    clib.module()
+    spec = importlib.util.spec_from_file_location("soft_receiver", clib.ROOT / "examples" / "soft_receiver.py")
     assert spec and spec.loader
     module = importlib.util.module_from_spec(spec)
     with unittest.mock.patch.object(sys, "argv", ["soft_receiver.py"]), unittest.mock.patch.object(sys, "stdin", []):
@@ -34,12 +34,12 @@ def soft_receiver() -> typing.Any:
     return module
 
 
-class Soft(built.InFolder):
+class Soft(clib.InFolder):
     """Over both base graphs."""
 
     def setUp(self) -> None:
         super().setUp()
-        self.nr = built.module()
+        self.nr = clib.module()
         self.table = self.nr.Table(BOTH)
 
     def link(self, which: int, seed: int = 1) -> tuple[typing.Any, ...]:
@@ -66,7 +66,7 @@ class Soft(built.InFolder):
                 self.assertEqual(places.shape, (tx.g,))
         tx = self.nr.Tx
         for given, name in [((8, tx(25, qm=2)), "Ragged"), ((7, tx(24)), "Size"), ((8, tx(1 << 23)), "Total")]:
-            self.assertEqual(built.fault_of(self.nr.places, *given, rate=1).name, name)
+            self.assertEqual(clib.fault_of(self.nr.places, *given, rate=1).name, name)
 
     def test_join(self) -> None:
         """Joining undoes cutting, and a wrong bit fails its own CRC and the block's."""
@@ -83,7 +83,7 @@ class Soft(built.InFolder):
             self.assertEqual(sum(one != other for one, other in zip(found.block, block)), 1)
         with self.assertRaisesRegex(self.nr.Error, "^Length: bits has the length 23, and not 24"):
             self.nr.join(bytes(23), 8, rate=1)
-        self.assertEqual(built.fault_of(self.nr.join, b"\2" * 24, 8, rate=1).name, "Bit")
+        self.assertEqual(clib.fault_of(self.nr.join, b"\2" * 24, 8, rate=1).name, "Bit")
 
     def test_packed(self) -> None:
         """The packed forms are the others, eight to an octet."""
@@ -108,7 +108,7 @@ class Soft(built.InFolder):
 
     def test_example(self) -> None:
         """Over erasures the example delivers what the proved receiver does, after each transmission."""
-        built.numpy()
+        clib.numpy()
         receiver = soft_receiver().Receiver(self.table)
         draw, outcomes = random.Random(5), set()
         for which, p in itertools.product(range(len(LINKS)), (0.0, 0.15, 0.3)):
@@ -131,7 +131,7 @@ class Soft(built.InFolder):
 
     def test_example_with_unknown_parity_bits(self) -> None:
         """As few values as fix the block leave parity bits unknown, whose check rows say nothing."""
-        built.numpy()
+        clib.numpy()
         signs = "0" * 40 + "---++-++" + "0" * 14 + "++-++--+--+-++--" + "0" * 9
         case: dict[str, typing.Any]
         case = {"id": "one", "tx": 0, "process": 0, "fresh": 1, "a": 8, "rate2048": 2048, "lbrm": 63, "rv": 1, "g": 87, "qm": 1,
@@ -143,15 +143,15 @@ class Soft(built.InFolder):
 
     def test_example_as_a_command(self) -> None:
         """It answers a line a transmission, and forgets at a reset."""
-        built.numpy()
+        clib.numpy()
         case = {"id": "one", "tx": 0, "process": 0, "fresh": 1, "a": 8, "rate2048": 2048, "lbrm": None, "rv": 0, "g": 184, "qm": 1,
                 "nl": 1, "mask": "all", "llr": [4 - 8 * it for it in self.nr.send(self.table, b"\1", self.nr.Tx(184), rate=1)]}
         again = {**case, "tx": 1, "fresh": 0, "llr": [0] * 184}
         lines: list[dict[str, typing.Any]] = [case, again, {"reset": True}, {**again, "fresh": 1}]
         path = self.file("table.csv", BOTH.decode())
-        words = [sys.executable, str(built.ROOT / "examples" / "soft_receiver.py"), str(path)]
+        words = [sys.executable, str(clib.ROOT / "examples" / "soft_receiver.py"), str(path)]
         ended = subprocess.run(words, input="".join(json.dumps(it) + "\n" for it in lines), stdout=subprocess.PIPE, text=True,
-                               env=built.for_python(), timeout=built.SECONDS, check=True)
+                               env=clib.for_python(), timeout=clib.SECONDS, check=True)
         answers = [json.loads(line) for line in ended.stdout.splitlines()]
         found = [(it["tx"], it["delivered"], it["passed"]) for it in answers]
         self.assertEqual(found, [(0, "01", "1"), (1, "01", "1"), (1, None, "0")])

@@ -7,12 +7,12 @@ import random
 import typing
 import unittest
 
-import built
-from built import made
+import clib
+from clib import made
 from model import clauses, coding, encoder, pcg
 
-BOTH = built.PRACTICE.read_bytes() + built.DRAWN.read_bytes()
-TABLE = built.table(BOTH)
+BOTH = clib.PRACTICE.read_bytes() + clib.DRAWN.read_bytes()
+TABLE = clib.table(BOTH)
 
 # The first words of the generator in PCG's own demonstration, for seed 42 and stream 54.
 WORDS = [0xA15C02B7, 0x7B47F409, 0xBA1D3330, 0x83D2F293, 0xBFA4784B, 0xCBED606E]
@@ -21,12 +21,12 @@ WORDS = [0xA15C02B7, 0x7B47F409, 0xBA1D3330, 0x83D2F293, 0xBFA4784B, 0xCBED606E]
 class Stages(unittest.TestCase):
     """e_r and f_r."""
 
-    def check_joined(self, octets: int, rate2048: int, tx: built.Tx, lbrm: int) -> None:
+    def check_joined(self, octets: int, rate2048: int, tx: clib.Tx, lbrm: int) -> None:
         """Cut, coded, selected and interleaved one by one, the code blocks are the bits that are sent (5.5). So they are matched by
         their own numbers alone."""
-        block, a, settings = random.Random(octets).randbytes(octets), 8 * octets, built.settings(rate2048, lbrm)
+        block, a, settings = random.Random(octets).randbytes(octets), 8 * octets, clib.settings(rate2048, lbrm)
         numbers = coding.plan(a, rate2048)
-        lengths, sent = built.written(built.Room(numbers["c"], item=4), "nr_lengths", rate2048, a, tx).numbers(), b""
+        lengths, sent = clib.written(clib.Room(numbers["c"], item=4), "nr_lengths", rate2048, a, tx).numbers(), b""
         for r, length in enumerate(lengths):
             bits = made(numbers["kdash"], "nr_cut", rate2048, block, r)
             d = made(numbers["n"], "nr_codeword", TABLE, rate2048, a, bits)
@@ -36,32 +36,32 @@ class Stages(unittest.TestCase):
             sent += f
         self.assertEqual(sent, coding.sent(BOTH, block, tx, rate2048, lbrm))
 
-    def matched(self, plan: dict[str, int], bits: bytes, length: int, tx: built.Tx, lbrm: int) -> bytes:
+    def matched(self, plan: dict[str, int], bits: bytes, length: int, tx: clib.Tx, lbrm: int) -> bytes:
         """What is sent of a code block, which is coded and matched without its transport block."""
         fillers, ncb = plan["k"] - plan["kdash"], clauses.buffer_length(plan, lbrm or None)
         d = made(plan["n"], "nr_encode", TABLE, plan["graph"], plan["z"], bits + bytes([2]) * fillers)
-        return made(length, "nr_match", built.matching(plan["graph"], plan["z"], fillers, ncb, tx.rv, tx.qm), d)
+        return made(length, "nr_match", clib.matching(plan["graph"], plan["z"], fillers, ncb, tx.rv, tx.qm), d)
 
     def test_joined(self) -> None:
         draw = random.Random(11)
         for octets, rate2048 in [(1, 2048), (9, 2048), (37, 512), (478, 2048), (479, 512), (1065, 2048), (1533, 1024)]:
             for rv in range(4):
                 qm, nl = draw.choice([1, 2, 4, 6, 8]), draw.randrange(1, 5)
-                tx = built.tx(qm * nl * draw.randrange(4, 500), rv, qm, nl)
+                tx = clib.tx(qm * nl * draw.randrange(4, 500), rv, qm, nl)
                 with self.subTest(octets=octets, rate2048=rate2048, rv=rv, qm=qm, nl=nl):
                     self.check_joined(octets, rate2048, tx, draw.choice([0, 16 * octets, 40 * octets]))
 
     def test_not_scheduled(self) -> None:
         """Nothing is selected from a code block that is not scheduled."""
-        self.check_joined(479, 512, built.tx(2400, 2, 4, 2, [1]), 0)
+        self.check_joined(479, 512, clib.tx(2400, 2, 4, 2, [1]), 0)
         self.assertEqual(made(0, "nr_interleave", 8, b""), b"")
 
     def test_selected_by_hand(self) -> None:
         """A = 8 at rate 1: Zc is 4, K' 24, K 40, N 200; d has fillers at 16 to 31. From d_0 on 16 bits come before them."""
         d = bytes([1, 0, 0, 1] * 4 + [2] * 16 + [0] * 167 + [1])
-        self.assertEqual(made(20, "nr_select", built.settings(2048), 8, 0, d), bytes([1, 0, 0, 1] * 4 + [0] * 4))
+        self.assertEqual(made(20, "nr_select", clib.settings(2048), 8, 0, d), bytes([1, 0, 0, 1] * 4 + [0] * 4))
         # Once round the buffer are 184 bits, of which the last is d_199.
-        self.assertEqual(made(186, "nr_select", built.settings(2048), 8, 0, d)[183:], bytes([1, 1, 0]))
+        self.assertEqual(made(186, "nr_select", clib.settings(2048), 8, 0, d)[183:], bytes([1, 1, 0]))
 
     def test_interleaved_by_hand(self) -> None:
         """Two rows of three, read by columns."""
@@ -79,20 +79,20 @@ class Matched(unittest.TestCase):
         head, middle, tail = d[:8], d[8:16], d[32:40]
         for rv, wanted in enumerate([head + middle + tail, middle + tail + head, tail + head + middle, tail + head + middle]):
             for e in [1, 7, 24, 30, 77]:
-                found = made(e, "nr_match", built.matching(2, 4, 16, 40, rv, 1), d)
+                found = made(e, "nr_match", clib.matching(2, 4, 16, 40, rv, 1), d)
                 self.assertEqual(found, (4 * wanted)[:e], f"rv {rv}, e {e}")
         # Two rows of three, read by columns; six rows of two; a buffer that ends within the fillers, and one of a bit.
-        self.assertEqual(made(6, "nr_match", built.matching(2, 4, 16, 40, 0, 2), d), bytes([1, 1, 0, 1, 0, 1]))
-        self.assertEqual(made(12, "nr_match", built.matching(2, 4, 16, 40, 0, 6), d), bytes([1, 0, 1, 0, 0, 0, 0, 1, 1, 0, 1, 1]))
-        self.assertEqual(made(20, "nr_match", built.matching(2, 4, 16, 20, 0, 1), d), head + middle + head[:4])
-        self.assertEqual(made(3, "nr_match", built.matching(2, 4, 16, 1, 3, 1), d), bytes([1, 1, 1]))
+        self.assertEqual(made(6, "nr_match", clib.matching(2, 4, 16, 40, 0, 2), d), bytes([1, 1, 0, 1, 0, 1]))
+        self.assertEqual(made(12, "nr_match", clib.matching(2, 4, 16, 40, 0, 6), d), bytes([1, 0, 1, 0, 0, 0, 0, 1, 1, 0, 1, 1]))
+        self.assertEqual(made(20, "nr_match", clib.matching(2, 4, 16, 20, 0, 1), d), head + middle + head[:4])
+        self.assertEqual(made(3, "nr_match", clib.matching(2, 4, 16, 1, 3, 1), d), bytes([1, 1, 1]))
 
     def test_base_graph_1_by_hand(self) -> None:
         """Zc 2 without fillers: N is 132, and the versions begin at 0, 34, 66 and 112, 17, 33 and 56 columns."""
         for rv, begin in enumerate([0, 34, 66, 112]):
             for place in range(132):
                 d = bytes(place) + b"\1" + bytes(131 - place)
-                found = made(132, "nr_match", built.matching(1, 2, 0, 132, rv, 1), d)
+                found = made(132, "nr_match", clib.matching(1, 2, 0, 132, rv, 1), d)
                 self.assertEqual(found.index(1), (place - begin) % 132)
 
     def test_as_the_model(self) -> None:
@@ -111,7 +111,7 @@ class Matched(unittest.TestCase):
                     bits[information - fillers : information] = [2] * fillers
                     given: list[int | None] = [None if it == 2 else it for it in bits]
                     selected = encoder.selected(given, numerators[rv] * ncb // n * z, ncb, e)
-                    found = made(e, "nr_match", built.matching(graph, z, fillers, ncb, rv, qm), bytes(bits))
+                    found = made(e, "nr_match", clib.matching(graph, z, fillers, ncb, rv, qm), bytes(bits))
                     self.assertEqual(list(found), encoder.interleaved(selected, qm), (graph, z, fillers, ncb, rv, qm, e))
 
 
@@ -120,9 +120,9 @@ class Erasing(unittest.TestCase):
 
     def erased(self, seed: int, threshold: int, octets: bytes) -> list[int]:
         """The places of these octets that become 2; an assertion fails if another octet changes."""
-        room = built.Room(len(octets))
+        room = clib.Room(len(octets))
         room.memory[room.AROUND : room.AROUND + len(octets)] = list(octets)
-        self.assertEqual(built.call("nr_erase", ctypes.c_uint64(seed), threshold, room), 0)
+        self.assertEqual(clib.call("nr_erase", ctypes.c_uint64(seed), threshold, room), 0)
         found = [place for place, octet in enumerate(room.octets()) if octet != octets[place]]
         self.assertEqual({room.octets()[place] for place in found} - {2}, set())
         return found
@@ -140,7 +140,7 @@ class Erasing(unittest.TestCase):
             self.assertEqual(self.erased(seed, threshold, bytes(count)), pcg.places(seed, threshold, count))
 
 
-SETTINGS = built.settings(2048)
+SETTINGS = clib.settings(2048)
 D = bytes(16) + bytes([2]) * 16 + bytes(168)
 
 
@@ -148,16 +148,16 @@ class Refused(unittest.TestCase):
     """The statuses of both stages, by their causes in order."""
 
     def refused(self, status: int, name: str, *given: typing.Any, room: int) -> None:
-        out = built.Room(room)
-        self.assertEqual(built.call(name, *given, out), status)
+        out = clib.Room(room)
+        self.assertEqual(clib.call(name, *given, out), status)
         self.assertTrue(out.is_unwritten())
 
     def test_selection(self) -> None:
         for status, settings, a, rv, d in [
-            (40, built.settings(0), 7, 4, b""),
-            (41, built.settings(0), 8, 4, b""),
-            (45, built.settings(512, 1), 7640, 4, b""),
-            (47, built.settings(512, 1), 8 * 479, 4, b""),
+            (40, clib.settings(0), 7, 4, b""),
+            (41, clib.settings(0), 8, 4, b""),
+            (45, clib.settings(512, 1), 7640, 4, b""),
+            (47, clib.settings(512, 1), 8 * 479, 4, b""),
             (50, SETTINGS, 8, 4, b""),
             (56, SETTINGS, 8, 3, D[1:]),
             (56, SETTINGS, 8, 3, D + b"\3"),
@@ -194,10 +194,10 @@ class Refused(unittest.TestCase):
             (5, (2, 4, 16, 200, 3, 2), D[:199] + b"\2"),
             (3, (2, 4, 16, 200, 3, 2), D),
         ]:
-            self.refused(status, "nr_match", built.matching(*numbers), d, room=4_194_305)
+            self.refused(status, "nr_match", clib.matching(*numbers), d, room=4_194_305)
         for qm in [2, 4, 6, 8]:
-            self.refused(54, "nr_match", built.matching(2, 4, 16, 200, 3, qm), D, room=4_194_303)
-        self.assertEqual(made(0, "nr_match", built.matching(2, 4, 16, 200, 3, 8), D), b"")
+            self.refused(54, "nr_match", clib.matching(2, 4, 16, 200, 3, qm), D, room=4_194_303)
+        self.assertEqual(made(0, "nr_match", clib.matching(2, 4, 16, 200, 3, 8), D), b"")
 
     def test_interleaving(self) -> None:
         for qm in [0, 3, 5, 7, 9, 0xFFFFFFFF]:

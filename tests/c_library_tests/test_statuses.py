@@ -5,15 +5,15 @@ from __future__ import annotations
 import typing
 import unittest
 
-import built
+import clib
 from model import coding
 
-PRACTICE = built.PRACTICE.read_bytes()
+PRACTICE = clib.PRACTICE.read_bytes()
 LINES = PRACTICE.splitlines(keepends=True)
 ONE = b"2,0,0" + b",0" * 8 + b"\n"
-SETTINGS = built.settings(2048)
-TABLE = built.table(PRACTICE)
-TX = built.tx(24)
+SETTINGS = clib.settings(2048)
+TABLE = clib.table(PRACTICE)
+TX = clib.tx(24)
 
 
 def without(row: bytes) -> typing.Any:
@@ -39,7 +39,7 @@ TABLES = [
     (30, 0, b"\n" * 4_194_305),
 ]
 
-ROWS = built.rows_of(PRACTICE)
+ROWS = clib.rows_of(PRACTICE)
 ZEROS = [0] * 8
 
 # The entries that are no shift table: the status, and the entries.
@@ -83,12 +83,12 @@ ENTRIES += [(status, ROWS[:count]) for status, count in [(26, 28), (28, 29), (28
 # The blocks that a link is refused for: the status, the settings, and the number of bits.
 BLOCKS = [
     (40, SETTINGS, 0),
-    (40, built.settings(0), 1_310_728),
-    (41, built.settings(0), 8),
-    (41, built.settings(2049), 9600),
-    (45, built.settings(512), 7640),
+    (40, clib.settings(0), 1_310_728),
+    (41, clib.settings(0), 8),
+    (41, clib.settings(2049), 9600),
+    (45, clib.settings(512), 7640),
     (46, SETTINGS, 3832),
-    (47, built.settings(512, 1), 8 * 479),
+    (47, clib.settings(512, 1), 8 * 479),
 ]
 
 
@@ -102,8 +102,8 @@ class Statuses(unittest.TestCase):
     """Of each call, with the rooms that it may write."""
 
     def refused(self, status: int, name: str, *given: typing.Any) -> None:
-        rooms = [it for it in given if isinstance(it, built.Room)]
-        self.assertEqual(built.call(name, *given), status)
+        rooms = [it for it in given if isinstance(it, clib.Room)]
+        self.assertEqual(clib.call(name, *given), status)
         for room in rooms:
             self.assertTrue(room.is_unwritten())
 
@@ -111,7 +111,7 @@ class Statuses(unittest.TestCase):
         self, status: int, table: typing.Any = TABLE, settings: typing.Any = SETTINGS, block: bytes = b"\1",
         tx: typing.Any = TX, room: int = 24,
     ) -> None:
-        self.refused(status, "nr_send", table, settings, block, tx, built.Room(room))
+        self.refused(status, "nr_send", table, settings, block, tx, clib.Room(room))
 
     def refused_receive(
         self, status: int, table: typing.Any = TABLE, settings: typing.Any = SETTINGS, a: int = 8,
@@ -119,49 +119,49 @@ class Statuses(unittest.TestCase):
     ) -> None:
         """The rooms are those for the outcomes, for what is left of each code block, and for the transport block."""
         outcomes, left, room = rooms or (len(txs), code_blocks(a, settings[0]), a // 8)
-        places = built.Room(outcomes, item=4), built.Room(left, item=4), built.Room(room)
+        places = clib.Room(outcomes, item=4), clib.Room(left, item=4), clib.Room(room)
         self.refused(status, "nr_receive", table, settings, a, list(txs), heard, *places)
 
     def refused_cut(
         self, status: int, rate2048: int = 2048, block: bytes = b"\1", r: int = 0, room: int = 24
     ) -> None:
-        self.refused(status, "nr_cut", rate2048, block, r, built.Room(room))
+        self.refused(status, "nr_cut", rate2048, block, r, clib.Room(room))
 
     def refused_encode(
         self, status: int, table: typing.Any = TABLE, graph: int = 2, z: int = 4, bits: bytes = bytes(40), room: int = 200
     ) -> None:
-        self.refused(status, "nr_encode", table, graph, z, bits, built.Room(room))
+        self.refused(status, "nr_encode", table, graph, z, bits, clib.Room(room))
 
     def refused_codeword(
         self, status: int, table: typing.Any = TABLE, rate2048: int = 2048, a: int = 8, bits: bytes = bytes(24),
         room: int = 200,
     ) -> None:
-        self.refused(status, "nr_codeword", table, rate2048, a, bits, built.Room(room))
+        self.refused(status, "nr_codeword", table, rate2048, a, bits, clib.Room(room))
 
     def test_tables(self) -> None:
         for status, place, text in TABLES:
             with self.subTest(status=status, text=text[:40]):
-                report = built.struct(4)
-                self.assertEqual(built.call("nr_table_check", text, report), status)
+                report = clib.struct(4)
+                self.assertEqual(clib.call("nr_table_check", text, report), status)
                 self.assertEqual(report.numbers(), [0, 0, place, 0])
                 for room in [0, 1, 105]:
-                    self.refused(status, "nr_table_entries", text, built.Room(room, item=22), built.counter())
+                    self.refused(status, "nr_table_entries", text, clib.Room(room, item=22), clib.counter())
 
     def test_entries(self) -> None:
         for status, rows in ENTRIES:
             with self.subTest(status=status, first=rows[:1], last=rows[-1:]):
                 # The first cause of all.
-                table = built.Table(rows)
-                self.refused_send(status, table, built.settings(0), b"", built.tx(0, 4), 1)
-                self.refused_receive(status, table, built.settings(0), 7, [built.tx(0, 4)], b"", (0, 0, 0))
+                table = clib.Table(rows)
+                self.refused_send(status, table, clib.settings(0), b"", clib.tx(0, 4), 1)
+                self.refused_receive(status, table, clib.settings(0), 7, [clib.tx(0, 4)], b"", (0, 0, 0))
                 self.refused_receive(status, table, txs=[TX] * 257)
                 self.refused_codeword(status, table, 0, 0, b"\2", 1)
                 self.refused_encode(status, table, 3, 0, b"\3", 1)
 
     def test_rooms_for_entries(self) -> None:
         for room in [0, 1, 104, 106, 1000]:
-            entries, count = built.Room(room, item=22), built.counter()
-            self.assertEqual(built.call("nr_table_entries", PRACTICE, entries, count), 2)
+            entries, count = clib.Room(room, item=22), clib.counter()
+            self.assertEqual(clib.call("nr_table_entries", PRACTICE, entries, count), 2)
             self.assertTrue(entries.is_unwritten())
             self.assertEqual(int.from_bytes(count.octets(), "little"), 105)
 
@@ -170,32 +170,32 @@ class Statuses(unittest.TestCase):
             with self.subTest(status=status, a=a):
                 rate2048 = settings[0]
                 if status < 46:
-                    self.refused(status, "nr_plan", rate2048, a, built.struct(12))
-                    self.refused(status, "nr_lengths", rate2048, a, built.tx(0, 4), built.Room(0, item=4))
+                    self.refused(status, "nr_plan", rate2048, a, clib.struct(12))
+                    self.refused(status, "nr_lengths", rate2048, a, clib.tx(0, 4), clib.Room(0, item=4))
                     self.refused_cut(status, rate2048, bytes(a // 8), 1000, 0)
                 if status < 47:
                     self.refused_codeword(status, rate2048=rate2048, a=a, bits=b"\2", room=1)
                 if status != 46:
-                    self.refused(status, "nr_buffer", settings, a, 4, built.struct(4))
-                self.refused_send(status, settings=settings, block=bytes(a // 8), tx=built.tx(0, 4), room=1)
-                self.refused_receive(status, settings=settings, a=a, txs=[built.tx(0, 4)], heard=b"")
+                    self.refused(status, "nr_buffer", settings, a, 4, clib.struct(4))
+                self.refused_send(status, settings=settings, block=bytes(a // 8), tx=clib.tx(0, 4), room=1)
+                self.refused_receive(status, settings=settings, a=a, txs=[clib.tx(0, 4)], heard=b"")
                 wrong = code_blocks(a, rate2048) + 1
                 self.refused_receive(status if status < 46 else 2, settings=settings, a=a, heard=b"", rooms=(0, wrong, 0))
         for a in [1, 7, 9, 1_310_721, 0xFFFFFFFF]:
-            self.refused(40, "nr_plan", 0, a, built.struct(12))
-            self.refused_receive(40, settings=built.settings(0), a=a)
+            self.refused(40, "nr_plan", 0, a, clib.struct(12))
+            self.refused_receive(40, settings=clib.settings(0), a=a)
 
     def test_transmissions(self) -> None:
-        for status, tx in built.WRONG:
+        for status, tx in clib.WRONG:
             with self.subTest(status=status, g=tx.g):
                 self.refused_send(status, tx=tx, room=tx.g + 1 if tx.g < 100 else 1)
-                self.refused(status, "nr_lengths", 2048, 8, tx, built.Room(2, item=4))
+                self.refused(status, "nr_lengths", 2048, 8, tx, clib.Room(2, item=4))
                 self.refused_receive(status, txs=[tx], heard=bytes(tx.g))
                 self.refused_receive(status, txs=[TX, tx], heard=bytes(24 + tx.g))
                 # Fewer places than G come before what else is wrong with a transmission.
                 if tx.g:
                     self.refused_receive(56, txs=[tx], heard=bytes(tx.g - 1))
-        self.refused(50, "nr_buffer", SETTINGS, 8, 4, built.struct(4))
+        self.refused(50, "nr_buffer", SETTINGS, 8, 4, clib.struct(4))
         self.refused_receive(56, txs=[], heard=b"\0")
         self.refused_receive(56, heard=bytes(25))
         self.refused_receive(56, txs=[TX, TX], heard=bytes(47))
@@ -204,14 +204,14 @@ class Statuses(unittest.TestCase):
         for room in [0, 1, 23, 25, 1000]:
             self.refused_send(2, room=room)
         # All zeros are the code word of the block of zeros, and G = 32 are enough to fix it; G = 24 leave it open.
-        for tx in [built.tx(32), TX]:
+        for tx in [clib.tx(32), TX]:
             for rooms in [(1, 1, 0), (1, 1, 2), (1, 1, 100), (0, 1, 1), (2, 1, 1), (1, 0, 1), (1, 2, 1)]:
                 self.refused_receive(2, txs=[tx], heard=bytes(tx.g), rooms=rooms)
         # They are judged before the first transmission is heard, and also if there is none.
-        self.refused_receive(2, txs=[built.tx(0, 4)], heard=b"", rooms=(1, 1, 0))
+        self.refused_receive(2, txs=[clib.tx(0, 4)], heard=b"", rooms=(1, 1, 0))
         self.refused_receive(2, txs=[], heard=b"", rooms=(0, 1, 0))
         for room in [0, 2, 344]:
-            self.refused(2, "nr_lengths", 2048, 8, TX, built.Room(room, item=4))
+            self.refused(2, "nr_lengths", 2048, 8, TX, clib.Room(room, item=4))
 
     def test_codewords(self) -> None:
         for room in [0, 199, 201]:
@@ -247,10 +247,10 @@ class Statuses(unittest.TestCase):
             self.refused_encode(46, graph=graph, z=17, bits=b"\3", room=0)
         for z in [0, 1, 17, 22, 385]:
             known = {22: 56}.get(z, 6)
-            self.refused_encode(known, built.table(built.DRAWN.read_bytes()), 1, z, b"\3", 0)
+            self.refused_encode(known, clib.table(clib.DRAWN.read_bytes()), 1, z, b"\3", 0)
 
     def test_parities(self) -> None:
         for poly in [3, 4, 0xFFFFFFFF]:
-            self.refused(4, "nr_crc", poly, bytes(2_097_153), built.struct())
-        self.refused(3, "nr_crc", 0, bytes(2_097_153), built.struct())
-        self.assertEqual(built.call("nr_crc", 0, bytes(2_097_152), built.struct()), 0)
+            self.refused(4, "nr_crc", poly, bytes(2_097_153), clib.struct())
+        self.refused(3, "nr_crc", 0, bytes(2_097_153), clib.struct())
+        self.assertEqual(clib.call("nr_crc", 0, bytes(2_097_152), clib.struct()), 0)

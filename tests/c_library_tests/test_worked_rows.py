@@ -5,35 +5,35 @@ from __future__ import annotations
 import typing
 import unittest
 
-import built
-from built import made
+import clib
+from clib import made
 
-ROWS = [line.split() for line in (built.HERE / "worked_rows.txt").read_text().splitlines() if line and line[0] != "#"]
+ROWS = [line.split() for line in (clib.HERE / "worked_rows.txt").read_text().splitlines() if line and line[0] != "#"]
 
 
 def numbers(rate2048: int, a: int) -> list[int]:
     """What nr_plan writes of a transport block."""
-    return built.written(built.struct(12), "nr_plan", rate2048, a).numbers()
+    return clib.written(clib.struct(12), "nr_plan", rate2048, a).numbers()
 
 
 def crc(octets: str) -> list[str]:
     """CRC24A, CRC24B and CRC16 of octets in hexadecimal."""
     given = bytes.fromhex(octets.strip("-"))
-    return [f"{built.written(built.struct(), 'nr_crc', poly, given).numbers()[0]:x}" for poly in range(3)]
+    return [f"{clib.written(clib.struct(), 'nr_crc', poly, given).numbers()[0]:x}" for poly in range(3)]
 
 
 def plan(rate2048: str, a: str) -> list[object]:
     """The base graph, B, L, C, K', Kb, Zc, the set, K and N of a transport block; or the error."""
-    room = built.struct(12)
-    status = built.call("nr_plan", int(rate2048), int(a), room)
+    room = clib.struct(12)
+    status = clib.call("nr_plan", int(rate2048), int(a), room)
     return ["error", status] if status else [*room.numbers()[:10]]
 
 
 def buffer(lbrm: str) -> list[int]:
     """Of a code block of 40 bits: Ncb, how many of these bits are no fillers, and where the redundancy versions begin."""
-    link = built.settings(2048, int(lbrm))
-    each = [built.written(built.struct(4), "nr_buffer", link, 24, rv).numbers() for rv in range(4)]
-    places = built.written(built.Room(400, item=4), "nr_places", link, 24, built.tx(400)).numbers()
+    link = clib.settings(2048, int(lbrm))
+    each = [clib.written(clib.struct(4), "nr_buffer", link, 24, rv).numbers() for rv in range(4)]
+    places = clib.written(clib.Room(400, item=4), "nr_places", link, 24, clib.tx(400)).numbers()
     return [each[0][0], places.index(places[0], 1), *(k0 for _, k0, *_ in each)]
 
 
@@ -42,7 +42,7 @@ def select(lbrm: str, rv: str, e: str, ones: str) -> list[int]:
     d = bytearray(26) + bytes([2]) * 30 + bytes(294)
     for one in ones.split(","):
         d[int(one)] = 1
-    found = made(int(e), "nr_select", built.settings(2048, int(lbrm)), 24, int(rv), bytes(d))
+    found = made(int(e), "nr_select", clib.settings(2048, int(lbrm)), 24, int(rv), bytes(d))
     return [place for place, bit in enumerate(found) if bit]
 
 
@@ -53,8 +53,8 @@ def interleave(qm: str, bits: str) -> list[str]:
 
 def owner(a: str, g: str, blocks: str, place: str) -> list[int]:
     """The code block that a place of G is of, at 4 bits a symbol, and the bit of d there: d_0 is at its first place."""
-    tx = built.tx(int(g), qm=4, blocks=None if blocks == "-" else map(int, blocks.split(",")))
-    found = built.written(built.Room(tx.g, item=4), "nr_places", built.settings(512), int(a), tx).numbers()
+    tx = clib.tx(int(g), qm=4, blocks=None if blocks == "-" else map(int, blocks.split(",")))
+    found = clib.written(clib.Room(tx.g, item=4), "nr_places", clib.settings(512), int(a), tx).numbers()
     return list(divmod(found[int(place)], numbers(512, int(a))[9]))
 
 

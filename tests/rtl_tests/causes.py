@@ -4,7 +4,7 @@ from __future__ import annotations
 
 import re
 
-import built
+import clib
 
 # The transmissions that are refused, in the order of the faults: the fault, and the lines that bring it.
 TXS = """\
@@ -106,5 +106,5 @@ def causes() -> list[tuple[str, str, list[str]]]:
 def begins() -> list[str]:
     """A table, a golden transmission of one code block, and a receiver; and a transmission of 24 bits for what follows."""
     return [
-        f"table_open {built.PRACTICE}", "tx 0 24 1 1", "golden_new", "golden_send 2048 0 01", "receiver_new 2048 0 8",
+        f"table_open {clib.PRACTICE}", "tx 0 24 1 1", "golden_new", "golden_send 2048 0 01", "receiver_new 2048 0 8",
     ]

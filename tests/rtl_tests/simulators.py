@@ -11,7 +11,7 @@ import sys
 import tempfile
 import typing
 
-import built
+import clib
 import shared
 
 ROOT = pathlib.Path(__file__).resolve().parent.parent.parent
@@ -58,7 +58,7 @@ _models: dict[str, concurrent.futures.Future[pathlib.Path]] = {}
 
 def use(archive: pathlib.Path | None, program: pathlib.Path) -> None:
     """Makes the library, and begins with all models if no words name tests."""
-    built.use(archive, program)
+    clib.use(archive, program)
     shared.use(program)
     for name, model in MODELS.items() if not sys.argv[1:] else ():
         if shutil.which("iverilog" if model.icarus else "verilator"):
@@ -68,26 +68,26 @@ def use(archive: pathlib.Path | None, program: pathlib.Path) -> None:
 def end() -> None:
     """Takes away what was made."""
     _pool.shutdown()
-    for folder in (built.FOLDER, FOLDER):
+    for folder in (clib.FOLDER, FOLDER):
         shutil.rmtree(folder, ignore_errors=True)
 
 
 def ran(words: typing.Sequence[object], folder: pathlib.Path | None = None) -> tuple[int, str]:
     """A command's status and what it wrote, standard error after standard output."""
-    status, said = built.ran(words, folder)
+    status, said = clib.ran(words, folder)
     return status, said.decode(errors="replace")
 
 
 def done(words: typing.Sequence[object], folder: pathlib.Path | None = None) -> str:
     """What a command wrote; a failure fails the test."""
-    return built.done(words, folder).decode(errors="replace")
+    return clib.done(words, folder).decode(errors="replace")
 
 
 def vpi() -> pathlib.Path:
     """The folder of the shim as a module of Icarus."""
     flags = done(["iverilog-vpi", "--cflags"]).split()
-    words = [built.compiler(), "-O1", "-shared", "-fPIC", *flags, "-I", C, "-o", FOLDER / "nr.vpi", DPI / "nr_vpi.c", *SHIM]
-    done([*words, built.STATIC])
+    words = [clib.compiler(), "-O1", "-shared", "-fPIC", *flags, "-I", C, "-o", FOLDER / "nr.vpi", DPI / "nr_vpi.c", *SHIM]
+    done([*words, clib.STATIC])
     return FOLDER
 
 
@@ -104,7 +104,7 @@ def build(name: str) -> pathlib.Path:
     words = ["verilator", "--binary", "--timing", "-Wno-fatal", "-Wno-WIDTH", "--x-initial", "unique", "-j", "2", "-I" + str(EXAMPLES)]
     words += ["--top", model.top, "--Mdir", folder, "-o", "tb", "-CFLAGS", f"-O1 -I{C}", *model.more]
     if model.library:
-        words += ["-LDFLAGS", built.STATIC, "-F", DPI / "nr_dpi.f"]
+        words += ["-LDFLAGS", clib.STATIC, "-F", DPI / "nr_dpi.f"]
     done([*words, *model.sources])
     return folder / "tb"
 
@@ -122,7 +122,7 @@ def begin(name: str) -> concurrent.futures.Future[pathlib.Path]:
 def run(name: str, *plusargs: str, folder: pathlib.Path | None = None) -> str:
     """What a simulation writes, without the simulator's own lines; a test without the simulator is skipped."""
     model = MODELS[name]
-    built.needs("iverilog" if model.icarus else "verilator")
+    clib.needs("iverilog" if model.icarus else "verilator")
     path = begin(name).result()
     words: list[object] = ["vvp", "-M", FOLDER, *(["-mnr"] if model.library else []), path] if model.icarus else [path]
     limit = [] if model.icarus else ["+verilator+error+limit+100000"]

@@ -7,7 +7,7 @@ import random
 import re
 import unittest
 
-import built
+import clib
 from linksim_tools.common.program import Wrong
 from linksim_tools.rtl.beats import Bus, FIRSTS, memory
 from model import coding, encoder
@@ -20,8 +20,8 @@ def stages() -> dict[int, list[int]]:
     """The bits of each stage of the transmission of tb_beats, by another model of the clauses; 0 for a filler."""
     numbers = coding.plan(72, 2048)
     bits = coding.code_blocks(BLOCK, numbers)[0]
-    d = coding.coded(coding.tables(built.PRACTICE.read_bytes())[2], numbers, bits)
-    f = list(coding.sent(built.PRACTICE.read_bytes(), BLOCK, built.tx(300, rv=2, qm=2), 2048))
+    d = coding.coded(coding.tables(clib.PRACTICE.read_bytes())[2], numbers, bits)
+    f = list(coding.sent(clib.PRACTICE.read_bytes(), BLOCK, clib.tx(300, rv=2, qm=2), 2048))
     e = encoder.selected(d, 375, 750, 300)
     return {0: bits[:72], 1: bits, 2: bits, 3: [it or 0 for it in d], 4: e, 5: f, 6: f}
 
@@ -30,7 +30,7 @@ class Simulated(unittest.TestCase):
     """tb_beats, in both simulators."""
 
     def judge(self, name: str) -> None:
-        said = simulators.run(name, f"+table={built.PRACTICE}")
+        said = simulators.run(name, f"+table={clib.PRACTICE}")
         found = {}
         for stage, count, digits in re.findall(r"(?m)^bits (\d) (\d+) ([0-9a-f]+)$", said):
             found[int(stage)] = [int(digit) for digit in f"{int(digits, 16):01024b}"[::-1][: int(count)]]
@@ -48,7 +48,7 @@ class Python(unittest.TestCase):
     """nr.beats, its inverse, and the tools' bus, of which each is written by itself."""
 
     def test_every_width(self) -> None:
-        nr, draw = built.module(), random.Random(1)
+        nr, draw = clib.module(), random.Random(1)
         for width in range(1, 513):
             bits = bytes(draw.randrange(2) for _ in range(draw.choice((1, width, 2 * width + 1, 1000))))
             text = "".join(map(str, bits))
@@ -61,7 +61,7 @@ class Python(unittest.TestCase):
                     self.assertEqual(Bus(width, first).lines("mem", text), memory(beats, width))
 
     def test_by_hand(self) -> None:
-        nr = built.module()
+        nr = clib.module()
         self.assertEqual(nr.beats([1, 0, 0, 0, 1, 1, 0, 1, 1, 1], 4), [0b0001, 0b1011, 0b0011])
         self.assertEqual(nr.beats([1, 0, 0, 0, 1, 1, 0, 1, 1, 1], 4, "msb"), [0b1000, 0b1101, 0b1100])
         self.assertEqual(nr.beats([1, nr.FILLER, 1], 8), [0b101])
@@ -72,7 +72,7 @@ class Python(unittest.TestCase):
         self.assertEqual(Bus(13).lines("mem", "1" * 14), ["1fff", "0001"])
 
     def test_refused(self) -> None:
-        nr = built.module()
+        nr = clib.module()
         for width in (0, 513):
             self.assertRaises(ValueError, nr.beats, b"\1", width)
             self.assertRaises(ValueError, nr.bits_of_beats, [1], width)
@@ -80,8 +80,8 @@ class Python(unittest.TestCase):
         self.assertRaises(ValueError, nr.beats, b"\1", 8, "big")
         self.assertRaises(ValueError, nr.bits_of_beats, [256], 8)
         self.assertRaises(TypeError, nr.bits_of_beats, [1.5], 8)
-        self.assertEqual(built.fault_of(nr.beats, [0, 3], 8).name, "Bit")
-        self.assertEqual(built.fault_of(nr.bits_of_beats, [1], 8, count=9).name, "Length")
+        self.assertEqual(clib.fault_of(nr.beats, [0, 3], 8).name, "Bit")
+        self.assertEqual(clib.fault_of(nr.bits_of_beats, [1], 8, count=9).name, "Length")
 
 
 # What tb_judge writes, its errors without where they stand.
@@ -153,15 +153,15 @@ class Judge(unittest.TestCase):
     maxDiff = None
 
     def judge(self, name: str, wanted: str, faults: int) -> None:
-        nr = built.module()
-        table = nr.Table(built.PRACTICE.read_bytes())
+        nr = clib.module()
+        table = nr.Table(clib.PRACTICE.read_bytes())
         sent = nr.send(table, b"123456789", nr.Tx(g=300, qm=2), rate2048=2048)
         told = (wanted + HEARD).format(
             third=sent[3], not_third=1 - sent[3], fifth=sent[5], last=sent[31], faults=faults, one=faults + 1, two=faults + 2,
             three=faults + 3,
         )
         lines = []
-        for line in simulators.run(name, f"+table={built.PRACTICE}").splitlines():
+        for line in simulators.run(name, f"+table={clib.PRACTICE}").splitlines():
             # Verilator: `[0] %Error: FILE:LINE: Assertion failed in SCOPE: TEXT`; Icarus: `ERROR: FILE:LINE: TEXT`.
             if "%Error" in line or line.startswith("ERROR"):
                 lines.append("ERROR: " + re.sub(r"^.*?\.sv:\d+: (Assertion failed in \S+: )?", "", line))
@@ -177,9 +177,9 @@ class Judge(unittest.TestCase):
 
     def test_vpi_under_valgrind(self) -> None:
         """No call by VPI reads or writes what it may not."""
-        tool = built.needs("valgrind")
-        built.needs("iverilog")
+        tool = clib.needs("valgrind")
+        clib.needs("iverilog")
         words = [tool, "--quiet", "--error-exitcode=9", "vvp", "-M", simulators.FOLDER, "-mnr"]
-        given = [simulators.begin("judge-icarus").result(), f"+table={built.PRACTICE}"]
+        given = [simulators.begin("judge-icarus").result(), f"+table={clib.PRACTICE}"]
         said = simulators.done([*words, *given], simulators.FOLDER)
         self.assertNotRegex(said, r"(?m)^==\d+==")

@@ -4,13 +4,13 @@ from __future__ import annotations
 
 import typing
 
-import built
+import clib
 from model import coding, encoder
 import shared
 import simulators
 from causes import GROWING, begins, causes
 
-PRACTICE = built.PRACTICE.read_bytes()
+PRACTICE = clib.PRACTICE.read_bytes()
 BLOCK = b"123456789"
 
 
@@ -19,7 +19,7 @@ def digits_of(bits: typing.Iterable[int]) -> str:
     return "".join(map(str, bits))
 
 
-class Calls(built.InFolder):
+class Calls(clib.InFolder):
     """Each over the simulation of tb_calls."""
 
     def said(self, *lines: str) -> list[tuple[str, str, str, list[str]]]:
@@ -72,7 +72,7 @@ class Calls(built.InFolder):
                 self.assertGreater(refused, 0)
                 self.assertEqual(set(states[:refused]), {"Memory"})
                 self.assertEqual({kept for _, _, kept, _ in found[:refused]}, {"kept"})
-        found = self.said(*(it for number in range(1, 400) for it in (f"refuse {number}", f"table_open {built.PRACTICE}")))
+        found = self.said(*(it for number in range(1, 400) for it in (f"refuse {number}", f"table_open {clib.PRACTICE}")))
         states = [status for _, status, _, _ in found]
         self.assertEqual(set(states[: states.index("Ok")]), {"Memory"})
 
@@ -82,7 +82,7 @@ class Calls(built.InFolder):
         block = bytes(it * it % 241 for it in range(957))
         numbers = coding.plan(8 * len(block), 512)
         self.assertEqual(numbers["c"], 3)
-        sent = coding.sent(table.encode(), block, built.tx(1204, rv=1, qm=4, blocks=[0, 2]), 512)
+        sent = coding.sent(table.encode(), block, clib.tx(1204, rv=1, qm=4, blocks=[0, 2]), 512)
         path = self.file("table.csv", table)
         beats = [f"golden_beat 6 0 {at} 301 0" for at in range(4)]
         found = self.said(
@@ -104,7 +104,7 @@ class Calls(built.InFolder):
     def test_places(self) -> None:
         """Of 40 places in QPSK of the block 01 (K' = 24, 2 Zc = 8): d_0 to d_15, then d_32 on behind the filler bits, by columns."""
         lines = [f"golden_place {m}" for m in range(40)]
-        found = self.said(f"table_open {built.PRACTICE}", "tx 0 40 2 1", "golden_new", "golden_send 2048 0 01", *lines)
+        found = self.said(f"table_open {clib.PRACTICE}", "tx 0 40 2 1", "golden_new", "golden_send 2048 0 01", *lines)
         live = [*range(16), *range(32, 56)]
         self.assertEqual([it[3] for it in found[3:]], [["0", str(live[m // 2 + m % 2 * 20])] for m in range(40)])
 
@@ -113,7 +113,7 @@ class Calls(built.InFolder):
         attached = encoder.octets_of(encoder.attached(encoder.bits_of(BLOCK)))
         lines = [f"golden_beat 1 0 {at} 8 1" for at in range(len(attached))]
         found = self.said(
-            f"table_open {built.PRACTICE}", "tx 0 24 1 1", "golden_new", f"golden_send 2048 0 {BLOCK.hex()}", *lines
+            f"table_open {clib.PRACTICE}", "tx 0 24 1 1", "golden_new", f"golden_send 2048 0 {BLOCK.hex()}", *lines
         )
         self.assertEqual(bytes(int(it[3][0], 16) for it in found[3:]), attached)
 
@@ -121,8 +121,8 @@ class Calls(built.InFolder):
         """Two transmissions, of which neither is enough: what is left after each, and the block. A refused one is not heard, and
         an erased beat past G says nothing."""
         block = b"\1"
-        first = coding.sent(PRACTICE, block, built.tx(24), 2048)
-        second = coding.sent(PRACTICE, block, built.tx(40, rv=2), 2048)
+        first = coding.sent(PRACTICE, block, clib.tx(24), 2048)
+        second = coding.sent(PRACTICE, block, clib.tx(40, rv=2), 2048)
         one, two, three = (int(digits_of(bits[::-1]), 2) for bits in (first, second[:32], second[32:]))
         found = self.said(
             *begins(), "receiver_left 0", f"receiver_hear 0 24 0 {one:x} fff000", "receiver_take", "receiver_left 0",
@@ -138,8 +138,8 @@ class Calls(built.InFolder):
 
     def test_valgrind(self) -> None:
         """No call reads or writes what it may not, and none keeps memory."""
-        tool = built.needs("valgrind")
-        built.needs("verilator")
+        tool = clib.needs("valgrind")
+        clib.needs("verilator")
         lines = begins()
         for _, _, some in causes():
             lines += [*some, "tx 0 24 1 1"]

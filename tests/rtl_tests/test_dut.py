@@ -7,7 +7,7 @@ import shutil
 import tempfile
 import unittest
 
-import built
+import clib
 import conform_shared
 import shared
 import simulators
@@ -38,7 +38,7 @@ class Dut(unittest.TestCase):
 
     def report(self, bug: str, suite: str = "suite.jsonl", cases: str = "cases.txt") -> tuple[int, str]:
         """The status and the text of the report on the DUT with a planted mistake."""
-        built.needs("verilator")
+        clib.needs("verilator")
         number, stall = BUGS[bug]
         answers = self.folder / f"{bug}.txt"
         said = simulators.run(

@@ -4,7 +4,7 @@ from __future__ import annotations
 
 import shutil
 
-import built
+import clib
 import shared
 import simulators
 
@@ -15,7 +15,7 @@ MISTAKES = {
 }
 
 
-class Examples(built.InFolder):
+class Examples(clib.InFolder):
     """A copy of the examples, over the library of the tests."""
 
     def setUp(self) -> None:
@@ -24,7 +24,7 @@ class Examples(built.InFolder):
 
     def made(self, *targets: str) -> tuple[int, str]:
         return simulators.ran(
-            ["make", "-j", "4", f"DPI={simulators.DPI}", f"NR_H={simulators.C}", f"NR_A={built.STATIC}", f"TABLE={built.PRACTICE}",
+            ["make", "-j", "4", f"DPI={simulators.DPI}", f"NR_H={simulators.C}", f"NR_A={clib.STATIC}", f"TABLE={clib.PRACTICE}",
              *targets],
             self.copy,
         )
@@ -36,7 +36,7 @@ class Examples(built.InFolder):
         (self.copy / name).write_text(text.replace(right, wrong))
 
     def judged(self, simulator: str, tool: str) -> None:
-        built.needs(tool)
+        clib.needs(tool)
         status, said = self.made(simulator)
         self.assertEqual(status, 0, said)
         for line in ("tb_crc: 60 blocks, 0 faults", "tb_interleaver: 60 code blocks, 0 faults"):
@@ -56,13 +56,13 @@ class Examples(built.InFolder):
         said = self.made("-n", "suite", "out/crc.icarus", "SIMULATOR=icarus")[1]
         for words in (" suite --table ", " plain ", " rom ", " out/crc.vvp "):
             self.assertIn(words, said)
-        for changed in (self.copy.resolve() / "code_block_pins.svh", built.STATIC):
+        for changed in (self.copy.resolve() / "code_block_pins.svh", clib.STATIC):
             self.assertIn("iverilog -g2012", self.made("-n", "-W", str(changed), "out/suite.vvp")[1])
 
     def test_suite(self) -> None:
         """The encoder over the cases of a suite, in both simulators: right, and with a mistake that is named."""
         for simulator, tool in (("verilator", "verilator"), ("icarus", "iverilog")):
-            built.needs(tool)
+            clib.needs(tool)
             wanted = (0, 0, "all that was answered agrees"), (1, 2, "shift-left gives all"), (5, 2, "difference, step interleaving")
             for bug, status, found in wanted:
                 with self.subTest(simulator, bug=bug):
@@ -74,7 +74,7 @@ class Examples(built.InFolder):
 
     def test_planted(self) -> None:
         """A unit with a mistake fails, with the first wrong bit."""
-        built.needs("iverilog")
+        clib.needs("iverilog")
         for unit in MISTAKES:
             self.plant(unit)
         for unit, stage in (("crc", "attached: bit "), ("interleaver", "f of code block r = 0: bit ")):

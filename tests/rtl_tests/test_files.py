@@ -8,7 +8,7 @@ import pathlib
 import re
 import typing
 
-import built
+import clib
 import shared
 import simulators
 
@@ -22,13 +22,13 @@ def bits_of(words: list[int], count: int, width: int, first: str) -> str:
     return "".join(text[::-1] if first == "lsb" else text for text in texts)[:count]
 
 
-class Files(built.InFolder):
+class Files(clib.InFolder):
     """A suite of two code blocks and one with fillers, exported."""
 
     def setUp(self) -> None:
         super().setUp()
         for tool in ("verilator", "iverilog"):
-            built.needs(tool)
+            clib.needs(tool)
 
     def words(self, name: str, path: pathlib.Path, count: int) -> list[int]:
         """The words of a file, as a simulator reads them."""

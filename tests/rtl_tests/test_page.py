@@ -5,7 +5,7 @@ from __future__ import annotations
 import re
 import sys
 
-import built
+import clib
 import shared
 import simulators
 
@@ -37,15 +37,15 @@ endtask
 """
 
 
-class Page(built.InFolder):
+class Page(clib.InFolder):
     """All of it."""
 
     def placed(self, line: str) -> str:
         """A command with the places of this checkout."""
         words = {
-            "/usr/share/nr/dpi": simulators.DPI, "-l:libnr.a": f"{built.STATIC} -CFLAGS -I{simulators.C}",
+            "/usr/share/nr/dpi": simulators.DPI, "-l:libnr.a": f"{clib.STATIC} -CFLAGS -I{simulators.C}",
             "make -f /usr/share/linksim/examples/rtl/Makefile":
-                f"make -f {simulators.EXAMPLES}/Makefile -j 4 DPI={simulators.DPI} NR_H={simulators.C} NR_A={built.STATIC}",
+                f"make -f {simulators.EXAMPLES}/Makefile -j 4 DPI={simulators.DPI} NR_H={simulators.C} NR_A={clib.STATIC}",
         }
         for name, place in words.items():
             line = line.replace(name, str(place))
@@ -53,7 +53,7 @@ class Page(built.InFolder):
 
     def test_every_command(self) -> None:
         for tool in ("verilator", "iverilog"):
-            built.needs(tool)
+            clib.needs(tool)
         text = PAGE.read_text()
         self.file("table.csv", simulators.tables())
         bench = re.findall(r"(?ms)^```systemverilog\n(.*?)^```", text)
