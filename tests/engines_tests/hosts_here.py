@@ -9,7 +9,7 @@ import subprocess
 import tempfile
 
 from ports import free_ports, wait_for
-from running import kill, path_with_sbin
+from runs import kill, path_with_sbin
 from slurm_here import steps_below
 
 PROGRAMS = ("sshd", "ssh", "ssh-keygen", "parallel")

@@ -11,7 +11,7 @@ import tempfile
 import time
 
 from ports import free_ports
-from running import kill, path_with_sbin
+from runs import kill, path_with_sbin
 
 PROGRAMS = ("munged", "slurmctld", "slurmd", "sbatch", "squeue", "scancel", "sinfo")
 

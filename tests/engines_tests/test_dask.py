@@ -8,7 +8,7 @@ import unittest.mock
 
 from dask_here import PROGRAMS, Scheduler
 from ports import free_ports
-from running import Running, kill, skip_without
+from runs import Running, kill, skip_without
 
 
 class Dask(Running):

@@ -15,7 +15,7 @@ import unittest
 import unittest.mock
 
 import shared
-from running import CHUNKS, CONF, Running, children_of, rows
+from runs import CHUNKS, CONF, Running, children_of, rows
 
 
 def words_of(pid: int) -> str:

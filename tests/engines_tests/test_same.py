@@ -12,7 +12,7 @@ import dask_here
 import hosts_here
 import shared
 import slurm_here
-from running import Running, kill, skip_without
+from runs import Running, kill, skip_without
 
 # How often a run is killed, before so many chunks are there.
 KILLS, BEFORE = int(os.environ.get("KILLS", "2")), 40

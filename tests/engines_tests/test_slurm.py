@@ -16,7 +16,7 @@ import unittest.mock
 import shared
 from linksim_tools.common.program import Failed
 from linksim_tools.curve.engines import slurm
-from running import CHUNKS, SECONDS, Running, kill, skip_without
+from runs import CHUNKS, SECONDS, Running, kill, skip_without
 from slurm_here import PROGRAMS, Cluster
 
 # Stand-ins: the array is over at once to squeue, and its elements run some seconds later, if at all.

@@ -11,7 +11,7 @@ import documents
 import hosts_here
 import shared
 import slurm_here
-from running import skip_without
+from runs import skip_without
 
 PAGE = shared.ROOT / "docs" / "curves.md"
 BLOCKS = re.compile(r"```sh\n(.*?)```", re.DOTALL)

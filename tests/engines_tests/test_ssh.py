@@ -11,7 +11,7 @@ import unittest.mock
 import curve_files
 from hosts_here import PROGRAMS, Hosts
 from linksim_tools.curve.engines import ssh
-from running import RULE, Running, skip_without
+from runs import RULE, Running, skip_without
 
 
 class StandIn(Running):

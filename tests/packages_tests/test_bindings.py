@@ -8,11 +8,11 @@ import tempfile
 import typing
 import unittest
 
-import made
-from placed import TABLE, Placed
+import dist
+from installation import TABLE, Placed
 
-RUST = made.ROOT / "c" / "rust"
-OCTAVE = made.ROOT / "c" / "octave"
+RUST = dist.ROOT / "c" / "rust"
+OCTAVE = dist.ROOT / "c" / "octave"
 # A text or a comment of a file for Octave and MATLAB, and what only Octave reads outside of them.
 QUOTED = re.compile(r"(?<![\w)\]}'])'(?:[^'\n]|'')*'|%.*")
 OF_OCTAVE = re.compile(r"[\"#!]|\+\+|--|[-+*/|&^]=|\*\*|\b(?:end[a-z_]+|printf|puts|do|until|unwind_protect)\b")
@@ -20,7 +20,7 @@ OF_OCTAVE = re.compile(r"[\"#!]|\+\+|--|[-+*/|&^]=|\*\*|\b(?:end[a-z_]+|printf|p
 
 def blocks(name: str) -> typing.List[typing.Tuple[str, str]]:
     """The blocks of a document, each with the word after its first fence."""
-    text = (made.ROOT / "docs" / name).read_text()
+    text = (dist.ROOT / "docs" / name).read_text()
     return re.findall(r"(?ms)^```(\w*)\n(.*?)^```$", text)
 
 
@@ -37,7 +37,7 @@ class Declared(unittest.TestCase):
 
     def test_heads(self) -> None:
         """docs/rust.md has the head of each call as it stands in the sources, with the type that a method is of."""
-        text, found = (made.ROOT / "docs" / "rust.md").read_text(), set()
+        text, found = (dist.ROOT / "docs" / "rust.md").read_text(), set()
         for name in ("calls", "many", "packed", "receiver", "simulation", "soft", "table"):
             owner = ""
             for line in re.sub(r"\(\n +", "(", (RUST / "src" / f"{name}.rs").read_text()).splitlines():
@@ -49,7 +49,7 @@ class Declared(unittest.TestCase):
         self.assertEqual([it for it in sorted(found) if f"`{it}`" not in text], [])
 
     def test_version(self) -> None:
-        self.assertIn(f'version = "{made.VERSION}"\n', (RUST / "Cargo.toml").read_text())
+        self.assertIn(f'version = "{dist.VERSION}"\n', (RUST / "Cargo.toml").read_text())
 
 
 class Built(Placed):
@@ -57,14 +57,14 @@ class Built(Placed):
 
     def setUp(self) -> None:
         super().setUp()
-        made.done(["make", "-s", "-C", made.ROOT / "c", "install", f"PREFIX={self.folder / 'nr'}"])
+        dist.done(["make", "-s", "-C", dist.ROOT / "c", "install", f"PREFIX={self.folder / 'nr'}"])
         self.share = self.folder / "nr" / "share" / "nr"
 
     def cargo(self, folder: pathlib.Path, *words: str, **places: pathlib.Path) -> str:
         """What cargo says, without the network."""
-        made.compiler()
-        environment = made.without_kit(CARGO_TARGET_DIR=self.folder / "target", CARGO_NET_OFFLINE="true", **places)
-        return made.done([made.needs("cargo"), *words, "--offline", "--quiet"], folder, environment)
+        dist.compiler()
+        environment = dist.without_kit(CARGO_TARGET_DIR=self.folder / "target", CARGO_NET_OFFLINE="true", **places)
+        return dist.done([dist.needs("cargo"), *words, "--offline", "--quiet"], folder, environment)
 
     def test_cargo(self) -> None:
         """The crate's own tests, over the library that NR_DIR names."""
@@ -81,7 +81,7 @@ class Built(Placed):
 
     def test_rust_document(self) -> None:
         """The lines of docs/rust.md, over the library that pkg-config names."""
-        made.needs("pkg-config")
+        dist.needs("pkg-config")
         (_, manifest), (_, source), (_, wanted), *_ = blocks("rust.md")
         top = self.folder / "mine"
         (top / "src").mkdir(parents=True)
@@ -96,12 +96,12 @@ class Built(Placed):
 
     def octave(self, script: str) -> str:
         """What Octave writes."""
-        made.compiler()
-        made.needs("mkoctfile")
-        words = [made.needs("octave-cli"), "--norc", "--quiet", "--no-history", "--eval", script]
+        dist.compiler()
+        dist.needs("mkoctfile")
+        words = [dist.needs("octave-cli"), "--norc", "--quiet", "--no-history", "--eval", script]
         (self.folder / "examples").mkdir()
         shutil.copy(TABLE, self.folder / "examples")
-        return made.done(words, self.folder)
+        return dist.done(words, self.folder)
 
     def test_octave(self) -> None:
         """Each call of the files for Octave."""
@@ -112,15 +112,15 @@ class Built(Placed):
 
     def test_rtl(self) -> None:
         """The units of examples/rtl in Icarus Verilog, over the package and the shim that were installed."""
-        made.needs("iverilog")
-        made.compiler()
+        dist.needs("iverilog")
+        dist.compiler()
         with tempfile.TemporaryDirectory() as name:
             # The simulator's words have no place for the space in this folder's name.
             folder = pathlib.Path(name)
             (folder / "nr").symlink_to(self.folder / "nr")
-            makefile = made.ROOT / "examples" / "rtl" / "Makefile"
+            makefile = dist.ROOT / "examples" / "rtl" / "Makefile"
             words = ["make", "-C", folder, "-f", makefile, f"SHARE={folder / 'nr' / 'share' / 'nr'}", "icarus"]
-            said = made.done(words)
+            said = dist.done(words)
         for unit in ("crc", "interleaver"):
             self.assertRegex(said, rf"(?m)^tb_{unit}: 60 .*, 0 faults$")
 

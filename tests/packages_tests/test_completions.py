@@ -11,7 +11,7 @@ import time
 import typing
 import unittest
 
-import made
+import dist
 
 COMMANDS = ["audit", "check", "cut", "help", "run", "send"]
 OF_LINK = {"--ta": "--table", "--se": "--settings", "--b": "--blocks", "--sc": "--schedule", "--h": "--help"}
@@ -60,7 +60,7 @@ class Terminal:
 
     def __init__(self, words: typing.List[str], folder: pathlib.Path) -> None:
         self.said = b""
-        environment = made.without_kit(TERM="dumb", LC_ALL="C.UTF-8", HOME=folder)
+        environment = dist.without_kit(TERM="dumb", LC_ALL="C.UTF-8", HOME=folder)
         self.pid, self.place = pty.fork()
         if not self.pid:
             try:
@@ -73,7 +73,7 @@ class Terminal:
         """What the shell says to a line."""
         # The quotes make the mark another one than what is typed, which the terminal shows.
         os.write(self.place, f"{line}\recho EN''D\r".encode())
-        until = time.monotonic() + made.SECONDS
+        until = time.monotonic() + dist.SECONDS
         while b"END\r\n" not in self.said:
             if not select.select([self.place], [], [], max(0, until - time.monotonic()))[0]:
                 raise AssertionError(f"{line}: no end after {self.said!r}")
@@ -86,12 +86,12 @@ class Terminal:
         os.waitpid(self.pid, 0)
 
 
-class Completed(made.InFolder):
+class Completed(dist.InFolder):
     """Each shell, if it is there."""
 
     def setUp(self) -> None:
         super().setUp()
-        made.done(["make", "-s", "-C", made.ROOT, "install-program", "PREFIX=/usr", f"DESTDIR={self.folder / 'root'}"])
+        dist.done(["make", "-s", "-C", dist.ROOT, "install-program", "PREFIX=/usr", f"DESTDIR={self.folder / 'root'}"])
         self.share = self.folder / "root" / "usr" / "share"
         self.files = self.folder / "files"
         (self.files / "with space").mkdir(parents=True)
@@ -112,7 +112,7 @@ class Completed(made.InFolder):
 
     def test_bash(self) -> None:
         completion = self.share / "bash-completion" / "completions" / "linksim"
-        self.in_terminal([made.needs("bash"), "--norc", "--noprofile", "-i"], f". '{completion}'")
+        self.in_terminal([dist.needs("bash"), "--norc", "--noprofile", "-i"], f". '{completion}'")
 
     def test_tools_in_bash(self) -> None:
         """What bash would offer in each place, for the tools: one word, or none if what was typed stays."""
@@ -125,39 +125,39 @@ class Completed(made.InFolder):
                 continue  # (readline offers files, if the completion offers nothing)
             with self.subTest(typed):
                 tool = words[0].partition("-")[2]
-                said = made.done([made.needs("bash"), "-c", script, "bash", tool, folder, *words], self.files)
+                said = dist.done([dist.needs("bash"), "-c", script, "bash", tool, folder, *words], self.files)
                 self.assertEqual(said.split(), [word] if word != words[-1] else [])
 
     def test_tools_in_fish(self) -> None:
-        fish = made.needs("fish")
+        fish = dist.needs("fish")
         script = 'source $argv[1]; complete -C"$argv[2]"; true'
-        environment = made.without_kit(HOME=self.folder)
+        environment = dist.without_kit(HOME=self.folder)
         for typed, word in OF_TOOLS.items():
             with self.subTest(typed):
                 completion = self.share / "fish" / "vendor_completions.d" / f"{typed.split()[0]}.fish"
-                said = made.done([fish, "--no-config", "-c", script, completion, typed], self.files, environment)
+                said = dist.done([fish, "--no-config", "-c", script, completion, typed], self.files, environment)
                 self.assertIn(word, [line.partition("\t")[0] for line in said.splitlines()])
 
     def test_tools_in_zsh(self) -> None:
         """zsh takes each file; what it offers is what bash does, by the same levels."""
-        zsh = made.needs("zsh")
+        zsh = dist.needs("zsh")
         for path in sorted((self.share / "zsh" / "site-functions").glob("_linksim-*")):
-            made.done([zsh, "-n", path])
+            dist.done([zsh, "-n", path])
 
     def test_zsh(self) -> None:
         folder = self.share / "zsh" / "site-functions"
         found = f"fpath=('{folder}' $fpath); autoload -U compinit; compinit -u -D"
-        self.in_terminal([made.needs("zsh"), "-f", "-i"], found)
+        self.in_terminal([dist.needs("zsh"), "-f", "-i"], found)
 
     def test_fish(self) -> None:
         """What fish says that it would offer: one word, or none if what was typed stays."""
-        fish = made.needs("fish")
+        fish = dist.needs("fish")
         completion = self.share / "fish" / "vendor_completions.d" / "linksim.fish"
         script = 'source $argv[1]; for line in $argv[2..-1]; echo "<"(complete -C$line | string split -f 1 \\t)">"; end'
-        environment = made.without_kit(HOME=self.folder)
+        environment = dist.without_kit(HOME=self.folder)
         for typed, word in TYPED.items():
             with self.subTest(typed):
-                said = made.done([fish, "--no-config", "-c", script, completion, typed], self.files, environment)
+                said = dist.done([fish, "--no-config", "-c", script, completion, typed], self.files, environment)
                 self.assertEqual(re.findall("<(.*)>", said), [word] if word != typed.split()[-1] else [])
 
 
@@ -165,7 +165,7 @@ class Placed(unittest.TestCase):
     """Debian's package puts each where the shell of Debian looks for it."""
 
     def test_folders(self) -> None:
-        dpkg = made.needs("dpkg-deb")
-        listed = made.done([dpkg, "-c", *made.DIST.glob("linksim_*.deb")])
+        dpkg = dist.needs("dpkg-deb")
+        listed = dist.done([dpkg, "-c", *dist.DIST.glob("linksim_*.deb")])
         for name in ("bash-completion/completions/linksim", "fish/vendor_completions.d/linksim.fish", "zsh/vendor-completions/_linksim"):
             self.assertIn(f" ./usr/share/{name}\n", listed)

@@ -8,7 +8,7 @@ import re
 import tarfile
 
 import browser
-import made
+import dist
 
 # Pages with their headings: those of a server for a page that is not there have another one.
 PAGES = {
@@ -38,12 +38,12 @@ FOUND = "[...document.querySelectorAll('.md-search-result__link')].map((it) => i
 CUT = "[...document.querySelectorAll('pre > code')].filter((it) => it.scrollWidth > it.clientWidth).map((it) => it.textContent)"
 
 
-class Site(made.InFolder):
+class Site(dist.InFolder):
     """What is in share/doc/linksim/html of the archive."""
 
     def setUp(self) -> None:
         super().setUp()
-        with tarfile.open(next(made.DIST.glob("*.tar.gz"))) as tar:
+        with tarfile.open(next(dist.DIST.glob("*.tar.gz"))) as tar:
             members = [it for it in tar.getmembers() if "/share/doc/linksim/html/" in it.name]
             if not members:
                 self.skipTest("the site is not in the archive: mkdocs is not here")
@@ -88,14 +88,14 @@ class Site(made.InFolder):
                         self.assertTrue(any(it.endswith(f"/{wanted}") for it in found[:6]), found)
 
 
-class Documents(made.InFolder):
+class Documents(dist.InFolder):
     """What packages say of themselves beside their man pages."""
 
     def listed(self, package: str) -> str:
-        found = sorted(made.DIST.glob(f"{package}_*.deb"))
+        found = sorted(dist.DIST.glob(f"{package}_*.deb"))
         if not found:
             self.skipTest(f"no package {package} was made")
-        return made.done([made.needs("dpkg-deb"), "-c", found[0]])
+        return dist.done([dist.needs("dpkg-deb"), "-c", found[0]])
 
     def test_places(self) -> None:
         for package, names in {
@@ -112,22 +112,22 @@ class Documents(made.InFolder):
 
     def test_formats(self) -> None:
         """linksim-formats(5) has every line of output and every fault of docs/formats.md, and man takes it without a word."""
-        made.done(["make", "-s", "-C", made.ROOT, "install", "PREFIX=/usr", f"DESTDIR={self.folder}"])
+        dist.done(["make", "-s", "-C", dist.ROOT, "install", "PREFIX=/usr", f"DESTDIR={self.folder}"])
         page = self.folder / "usr" / "share" / "man" / "man5" / "linksim-formats.5"
-        man = made.needs("man")
-        environment = made.without_kit(MANWIDTH=200, LC_ALL="C.UTF-8", HOME=self.folder)
-        said = made.done([man, "--warnings", "--nj", "--nh", "-l", page], self.folder, environment)
-        document = (made.ROOT / "docs" / "formats.md").read_text()
+        man = dist.needs("man")
+        environment = dist.without_kit(MANWIDTH=200, LC_ALL="C.UTF-8", HOME=self.folder)
+        said = dist.done([man, "--warnings", "--nj", "--nh", "-l", page], self.folder, environment)
+        document = (dist.ROOT / "docs" / "formats.md").read_text()
         for word in ("total rounds", "left <", "order", "stuck", "NoBuffer", "MissingRow", "LongLine", "pcg:"):
             self.assertIn(word, document)
             self.assertIn(word, said)
 
     def test_examples_of_help(self) -> None:
         """The examples that an installed tool's help shows are files that are there."""
-        made.done(["make", "-s", "-C", made.ROOT, "install", "PREFIX=/usr", f"DESTDIR={self.folder}"])
+        dist.done(["make", "-s", "-C", dist.ROOT, "install", "PREFIX=/usr", f"DESTDIR={self.folder}"])
         tools = self.folder / "usr" / "bin"
         for tool in ("curve", "explain", "vectors"):
-            said = made.done([tools / f"linksim-{tool}", "--help"], self.folder)
+            said = dist.done([tools / f"linksim-{tool}", "--help"], self.folder)
             top = re.escape(str(self.folder.resolve() / "usr" / "share" / "linksim" / "examples"))
             named = re.findall(rf"{top}/[\w.-]+", said)
             self.assertTrue(named, tool)

@@ -7,7 +7,7 @@ import inspect
 import unittest
 
 import conform_shared
-import seen_pages
+import report_pages
 from linksim_tools.conform.case import Answer, Case
 from linksim_tools.conform.clauses import Clauses
 from linksim_tools.conform.code import rotated
@@ -169,7 +169,7 @@ class ParityBits(unittest.TestCase):
         self.assertIsNone(polynomials.way_of(blocks, 16, self.RIGHT))
 
 
-class Page(seen_pages.SeenPages):
+class Page(report_pages.SeenPages):
     """The report as a person sees it."""
 
     def test_no_part_is_wider_than_the_window(self) -> None:

@@ -11,7 +11,7 @@ import sys
 import unittest
 
 import conform_shared
-import planted
+import encoder_mistakes
 import shared
 from linksim_tools.conform.case import Answer
 from linksim_tools.conform.encoder import answers as answering
@@ -30,7 +30,7 @@ def questions() -> bytes:
     return shared.made("conform", "plain", conform_shared.suite_path(), with_program=False).encode()
 
 
-def built(one: planted.Planted) -> pathlib.Path:
+def built(one: encoder_mistakes.Planted) -> pathlib.Path:
     """The example encoder with a mistake, built."""
     folder = conform_shared.folder() / one.name
     folder.mkdir(exist_ok=True)
@@ -50,7 +50,7 @@ def built(one: planted.Planted) -> pathlib.Path:
     return folder / "encoder"
 
 
-def answered(one: planted.Planted) -> dict[str, Answer]:
+def answered(one: encoder_mistakes.Planted) -> dict[str, Answer]:
     """What the encoder with a mistake answers to the suite."""
     status, output, error = shared.run([built(one), conform_shared.table()], questions())
     assert (status, error) == (0, b""), error.decode()
@@ -72,7 +72,7 @@ def said_of(answers: dict[str, Answer]) -> tuple[reporting.Report, str]:
 class Planted(unittest.TestCase):
     """Each mistake is found, most are named, and none is named wrongly."""
 
-    def judged(self, one: planted.Planted, answers: dict[str, Answer], wanted: str) -> bool:
+    def judged(self, one: encoder_mistakes.Planted, answers: dict[str, Answer], wanted: str) -> bool:
         """Whether a name, an entry, a polynomial or a condition is said, which must be the wanted one. The mistake is to
         be found, and no listed one named plainly, since it is none of them."""
         made, text = said_of(answers)
@@ -88,19 +88,19 @@ class Planted(unittest.TestCase):
 
     def test_how_many_are_named(self) -> None:
         all_steps = sent_alone = 0
-        for one in planted.PLANTED:
+        for one in encoder_mistakes.PLANTED:
             with self.subTest(one.name):
                 answers = answered(one)
                 all_steps += self.judged(one, answers, one.all_steps)
                 sent = {name: Answer(sent=it.sent) for name, it in answers.items()}
                 sent_alone += self.judged(one, sent, one.sent_alone)
-        count = len(planted.PLANTED)
+        count = len(encoder_mistakes.PLANTED)
         self.assertGreaterEqual(count, 60)
         self.assertGreaterEqual(100 * all_steps, ALL_STEPS * count)
         self.assertGreaterEqual(100 * sent_alone, SENT_ALONE * count)
 
     def test_bugs_of_hardware(self) -> None:
-        for one in planted.HARDWARE:
+        for one in encoder_mistakes.HARDWARE:
             with self.subTest(one.name):
                 answers = answered(one)
                 self.assertRegex(said_of(answers)[1], one.all_steps)
@@ -108,7 +108,7 @@ class Planted(unittest.TestCase):
                 self.assertRegex(said_of(sent)[1], one.sent_alone)
 
     def test_state_of_an_earlier_case(self) -> None:
-        one = next(it for it in planted.HARDWARE if it.name == "stale-fillers")
+        one = next(it for it in encoder_mistakes.HARDWARE if it.name == "stale-fillers")
         words = ["run", "--plain", "--twice", conform_shared.suite_path(), "--", built(one), conform_shared.table()]
         status, output, error = conform_shared.conform(*words)
         self.assertEqual((status, error), (1, ""))
@@ -139,7 +139,7 @@ class Planted(unittest.TestCase):
         self.assertIn(said, conform_shared.conform(*words)[1])
 
     def test_the_same_answers_when_asked_again(self) -> None:
-        one = next(it for it in planted.HARDWARE if it.name == "rotator-left")
+        one = next(it for it in encoder_mistakes.HARDWARE if it.name == "rotator-left")
         words = ["run", "--plain", "--twice", conform_shared.few_path(), "--", built(one), conform_shared.table()]
         status, output, error = conform_shared.conform(*words)
         self.assertEqual((status, error), (1, ""))

@@ -13,10 +13,10 @@ import unittest
 
 import conform_shared
 import test_conform_planted as planting
-import unlisted
+import encoder_families
 from linksim_tools.conform.case import Answer
 from linksim_tools.conform.encoder.mistakes import MISTAKES
-from planted import Planted
+from encoder_mistakes import Planted
 
 # Of how many of a hundred mistakes the right name or an exact condition must be said, by all steps and by `sent`. Then of how
 # many of a kind at least, and of how many pairs both names.
@@ -58,19 +58,19 @@ class Unlisted(unittest.TestCase):
     """Most are named, and none has the name of another."""
 
     def test_each_kind(self) -> None:
-        listed = [(one,) for ones in unlisted.KINDS.values() for one in ones]
+        listed = [(one,) for ones in encoder_families.KINDS.values() for one in ones]
         found = all_judged(listed)
         for (one,), it in zip(listed, found):
             with self.subTest(one.name):
                 self.assertEqual(it.plain, [])
         self.assertGreaterEqual(len(listed), 80)
-        self.assertGreaterEqual(min(map(len, unlisted.KINDS.values())), OF_KIND)
+        self.assertGreaterEqual(min(map(len, encoder_families.KINDS.values())), OF_KIND)
         for field, least in (("all_steps", ALL_STEPS), ("sent_alone", SENT_ALONE)):
             lacking = [one.name for (one,), it in zip(listed, found) if not getattr(it, field)]
             self.assertLessEqual(100 * len(lacking), (100 - least) * len(listed), f"{field}: {lacking}")
 
     def test_two_by_the_bits_that_are_sent(self) -> None:
-        named = {one.name: one for ones in unlisted.KINDS.values() for one in ones}
-        found = all_judged([(named[one], named[two]) for one, two in unlisted.PAIRS])
+        named = {one.name: one for ones in encoder_families.KINDS.values() for one in ones}
+        found = all_judged([(named[one], named[two]) for one, two in encoder_families.PAIRS])
         self.assertGreaterEqual(sum(it.sent_alone for it in found), PAIRS)
         self.assertGreaterEqual(sum(it.all_steps for it in found), len(found) - 1)

@@ -9,7 +9,7 @@ import unittest.mock
 
 from linksim_tools.common import faults, program, toml_file
 from linksim_tools.outcome import command
-import seen_pages
+import report_pages
 import shared
 
 TABLE = shared.INPUTS["table"]
@@ -207,7 +207,7 @@ class Files(shared.InFolder):
         self.assertIn("required arguments", output)
 
 
-class Outcome(seen_pages.SeenPages):
+class Outcome(report_pages.SeenPages):
     """Over the files of the examples."""
 
     def outcome(self, schedule: object, *more: object, status: int = 0, **given: object) -> str:

@@ -8,7 +8,7 @@ import shutil
 import unittest
 import unittest.mock
 
-import held_out
+import receiver_mistakes
 import receiver_designs
 import receiver_shared
 from linksim_tools.conform.receiver import judged, ladder, report, steps, tried
@@ -114,29 +114,29 @@ class HeldOut(unittest.TestCase):
         """None has a plain name that is not its own, and more than half are named by what the report says: a name is given only
         where something proves it."""
         named = []
-        for name, it in held_out.HELD_OUT.items():
+        for name, it in receiver_mistakes.HELD_OUT.items():
             with self.subTest(name):
-                made = receiver_shared.reported(receiver_shared.answers_of_kind(held_out.planted(name)))
+                made = receiver_shared.reported(receiver_shared.answers_of_kind(receiver_mistakes.planted(name)))
                 text = "\n".join([*made.diagnosis.says(), *made.doubts] if made.diagnosis else made.doubts)
                 named += [name] * (it.said != "" and it.said in text)
                 if name == "remainder-of-2-first":
                     self.assertNotEqual(made.failing, [])
                 if made.diagnosis and made.diagnosis.kind in ("gives", "one"):
                     self.assertIn(it.said, text)
-        self.assertGreaterEqual(len(held_out.HELD_OUT), 40)
+        self.assertGreaterEqual(len(receiver_mistakes.HELD_OUT), 40)
         self.assertIn("rv-of-1-bit", named)
-        self.assertGreaterEqual(len(named), 0.55 * len(held_out.HELD_OUT), sorted(held_out.HELD_OUT.keys() - set(named)))
+        self.assertGreaterEqual(len(named), 0.55 * len(receiver_mistakes.HELD_OUT), sorted(receiver_mistakes.HELD_OUT.keys() - set(named)))
 
     @unittest.expectedFailure
     def test_numbers_in_few_bits_are_found(self) -> None:
         """Not yet again: no quick case shows either of them over this table."""
         for name in ("p-of-8-bits", "addresses-of-14-bits"):
-            made = receiver_shared.reported(receiver_shared.answers_of_kind(held_out.planted(name)))
+            made = receiver_shared.reported(receiver_shared.answers_of_kind(receiver_mistakes.planted(name)))
             self.assertNotEqual(made.failing, [], name)
 
     def test_search_is_cut_short(self) -> None:
         """After so much work, and not after so long: what is said is the same on every machine."""
-        answers = receiver_shared.answers_of_kind(held_out.planted("order-of-qm-4"))
+        answers = receiver_shared.answers_of_kind(receiver_mistakes.planted("order-of-qm-4"))
         for work, is_cut in ((tried.WORK, False), (0, True)):
             with unittest.mock.patch.object(tried, "WORK", work):
                 found = receiver_shared.reported(answers).diagnosis
@@ -151,7 +151,7 @@ class HeldOut(unittest.TestCase):
             ("weak-dropped", "up to level 4: weak values are lost in rounding"),
         ):
             with self.subTest(name):
-                kind, suite = held_out.planted(name), receiver_shared.suite()
+                kind, suite = receiver_mistakes.planted(name), receiver_shared.suite()
                 failing = {it: ladder.failing(suite, receiver_shared.answers_of_kind(kind, level=it))
                            for it in map(Level, (4, 8, 16, 31))}
                 text = "\n".join(ladder.lines(suite, failing, suite.cases))

@@ -5,14 +5,14 @@ from __future__ import annotations
 import typing
 
 import receiver_shared
-import seen_pages
+import report_pages
 from linksim_tools.conform import record as recording
 from linksim_tools.conform.receiver import page, report
 from linksim_tools.conform.receiver.answers import Answers
 from linksim_tools.conform.receiver.mistakes.listed import STEPS
 
 
-class Page(seen_pages.SeenPages):
+class Page(report_pages.SeenPages):
     """Of a right receiver, of two mistakes, and of answers that no known one gives."""
 
     def marks(self, answers: Answers, troubles: typing.Sequence[str] = ()) -> str:

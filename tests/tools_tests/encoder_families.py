@@ -5,7 +5,7 @@ alone."""
 
 from __future__ import annotations
 
-from planted import (
+from encoder_mistakes import (
     CODE_CRC, EXTENSION, LIMIT, Planted, REST, ROUND, SHIFT, START, TB_CRC, TURN, WORD, ZC, planted,
 )
 

@@ -6,11 +6,11 @@ import shlex
 import typing
 
 import layouts
-import made
+import dist
 import shared
 
-EXAMPLES = made.ROOT / "c" / "examples"
-TABLE = made.ROOT / "examples" / "practice.csv"
+EXAMPLES = dist.ROOT / "c" / "examples"
+TABLE = dist.ROOT / "examples" / "practice.csv"
 CMAKE = """cmake_minimum_required(VERSION 3.10)
 project(erasures C)
 find_package(nr 3 REQUIRED)
@@ -24,25 +24,25 @@ endforeach()
 """
 
 
-class Placed(made.InFolder):
+class Placed(dist.InFolder):
     """The checks of one package or of several together; a test says where their files are."""
 
     def program(self, bin_folder: typing.Any) -> None:
         """The program and what it makes of the block 01."""
-        self.assertEqual(made.done([bin_folder / "linksim", "--version"]), f"linksim {made.VERSION}\n")
-        answer = made.done([bin_folder / "linksim", "cut", "--blocks", "-"], stdin=b"01\n")
+        self.assertEqual(dist.done([bin_folder / "linksim", "--version"]), f"linksim {dist.VERSION}\n")
+        answer = dist.done([bin_folder / "linksim", "cut", "--blocks", "-"], stdin=b"01\n")
         self.assertTrue(answer.endswith("code 1 0 011021\n"), answer)
 
     def tools(self, bin_folder: typing.Any, examples: typing.Any, **places: typing.Any) -> None:
         """Each tool, over the program beside it."""
-        environment = made.without_kit(**places)
-        self.assertIn("near", made.done([bin_folder / "linksim-vectors", "--help"], environment=environment))
-        self.assertIn(" graph 1 ", made.done([bin_folder / "linksim-vectors", "near", "100000"], environment=environment))
+        environment = dist.without_kit(**places)
+        self.assertIn("near", dist.done([bin_folder / "linksim-vectors", "--help"], environment=environment))
+        self.assertIn(" graph 1 ", dist.done([bin_folder / "linksim-vectors", "near", "100000"], environment=environment))
         words = [bin_folder / "linksim-table", "fingerprint", "--table", examples / "practice.csv"]
-        prints = made.done(words, environment=environment)
+        prints = dist.done(words, environment=environment)
         self.assertEqual(prints.count("\n"), 8)
         words = [bin_folder / "linksim-curve", "point", examples / "curve.toml", "0", "0"]
-        status, answer = made.ran(words, environment=environment)
+        status, answer = dist.ran(words, environment=environment)
         if status and "tomli" in answer:
             return
         self.assertEqual(status, 0)
@@ -54,35 +54,35 @@ class Placed(made.InFolder):
 
     def by_pkg_config(self, **places: typing.Any) -> None:
         """An example in C over the shared library, with the flags that pkg-config says."""
-        made.needs("pkg-config")
-        environment = made.without_kit(**places)
-        version = made.done(["pkg-config", "--modversion", "nr"], environment=environment)
-        self.assertEqual(version, made.VERSION + "\n")
-        flags = shlex.split(made.done(["pkg-config", "--cflags", "--libs", "nr"], environment=environment))
-        made.done([made.compiler(), EXAMPLES / "erasures.c", *flags, "-o", self.folder / "erasures"])
-        self.delivered(made.done([self.folder / "erasures", TABLE], environment=environment))
+        dist.needs("pkg-config")
+        environment = dist.without_kit(**places)
+        version = dist.done(["pkg-config", "--modversion", "nr"], environment=environment)
+        self.assertEqual(version, dist.VERSION + "\n")
+        flags = shlex.split(dist.done(["pkg-config", "--cflags", "--libs", "nr"], environment=environment))
+        dist.done([dist.compiler(), EXAMPLES / "erasures.c", *flags, "-o", self.folder / "erasures"])
+        self.delivered(dist.done([self.folder / "erasures", TABLE], environment=environment))
 
     def by_cmake(self, prefix: typing.Any) -> None:
         """The same over both libraries, as find_package finds them."""
-        made.needs("cmake")
-        made.compiler()
+        dist.needs("cmake")
+        dist.compiler()
         source = self.folder / "cmake"
         source.mkdir()
-        (source / "CMakeLists.txt").write_text(CMAKE.format(version=made.VERSION, example=EXAMPLES / "erasures.c"))
-        made.done(["cmake", "-S", source, "-B", source / "build", f"-DCMAKE_PREFIX_PATH={prefix}"])
-        made.done(["cmake", "--build", source / "build"])
+        (source / "CMakeLists.txt").write_text(CMAKE.format(version=dist.VERSION, example=EXAMPLES / "erasures.c"))
+        dist.done(["cmake", "-S", source, "-B", source / "build", f"-DCMAKE_PREFIX_PATH={prefix}"])
+        dist.done(["cmake", "--build", source / "build"])
         for target in ("nr", "static"):
-            self.delivered(made.done([source / "build" / f"by_{target}", TABLE]))
+            self.delivered(dist.done([source / "build" / f"by_{target}", TABLE]))
 
     def by_python(self, python: typing.Any, **places: typing.Any) -> None:
         """An example in Python."""
-        environment = made.without_kit(**places)
+        environment = dist.without_kit(**places)
         words = [python, EXAMPLES / "erasures.py"]
         for given in (words, [*words, TABLE]):
-            self.delivered(made.done(given, environment=environment, folder=self.folder))
-        version = made.done([python, "-c", "import nr; print(nr.__version__)"], environment=environment, folder=self.folder)
-        self.assertEqual(version, made.VERSION + "\n")
-        said = made.done([python, "-m", "nr.table", "read", "--help"], environment=environment, folder=self.folder)
+            self.delivered(dist.done(given, environment=environment, folder=self.folder))
+        version = dist.done([python, "-c", "import nr; print(nr.__version__)"], environment=environment, folder=self.folder)
+        self.assertEqual(version, dist.VERSION + "\n")
+        said = dist.done([python, "-m", "nr.table", "read", "--help"], environment=environment, folder=self.folder)
         self.assertIn("python -m nr.table read 38212-f20.docx --out table.csv", said)
 
     def reads_tables(self, python: typing.Any, **places: typing.Any) -> None:
@@ -90,17 +90,17 @@ class Placed(made.InFolder):
         entries = {graph: shared.drawn_entries(graph) for graph in (1, 2)}
         text = "".join(layouts.text(graph, [layouts.side_by_side(layouts.halves(found))]) for graph, found in entries.items())
         (self.folder / "38212.txt").write_text(text)
-        environment = made.without_kit(**places)
-        said = made.done([python, "-m", "nr.table", "read", "38212.txt"], environment=environment, folder=self.folder)
+        environment = dist.without_kit(**places)
+        said = dist.done([python, "-m", "nr.table", "read", "38212.txt"], environment=environment, folder=self.folder)
         wanted = [f"{graph},{row},{col},{','.join(map(str, values))}" for graph in (1, 2)
                   for (row, col), values in sorted(entries[graph].items())]
         self.assertEqual([line for line in said.splitlines() if line[:1].isdigit()], wanted)
 
     def manual(self, folder: typing.Any) -> None:
         """The man pages, as man shows them."""
-        made.needs("man")
+        dist.needs("man")
         for path in sorted(folder.glob("linksim*")):
-            shown = made.done(["man", "-P", "cat", "-l", path], environment=made.without_kit(LC_ALL="C.UTF-8"))
+            shown = dist.done(["man", "-P", "cat", "-l", path], environment=dist.without_kit(LC_ALL="C.UTF-8"))
             if "minimized" in shown:
                 self.skipTest("man is left out of this system")
             self.assertRegex(shown, r"(?s)LINKSIM.*NAME.*linksim.*SYNOPSIS")

@@ -11,8 +11,8 @@ import subprocess
 import sys
 import tarfile
 
-import made
-from placed import Placed
+import dist
+from installation import Placed
 
 SOURCES = ["Makefile", "VERSION", "CHANGELOG.md", "CONTRIBUTING.md", "README.md", "SECURITY.md"]
 SOURCES += ["docs", "c", "tools", "examples", "packaging"]
@@ -28,14 +28,14 @@ BLOCKED = [
 ]
 
 
-class Same(made.InFolder):
+class Same(dist.InFolder):
     """The packages do not depend on where, when and by whom they are made."""
 
     def test_sums(self) -> None:
-        lines = [line.split("  ") for line in (made.DIST / "SHA256SUMS").read_text().splitlines()]
-        self.assertEqual({name for _, name in lines}, {path.name for path in made.DIST.iterdir()} - {"SHA256SUMS"})
+        lines = [line.split("  ") for line in (dist.DIST / "SHA256SUMS").read_text().splitlines()]
+        self.assertEqual({name for _, name in lines}, {path.name for path in dist.DIST.iterdir()} - {"SHA256SUMS"})
         for digest, name in lines:
-            self.assertEqual(hashlib.sha256((made.DIST / name).read_bytes()).hexdigest(), digest)
+            self.assertEqual(hashlib.sha256((dist.DIST / name).read_bytes()).hexdigest(), digest)
 
     def test_again(self) -> None:
         """Libraries and packages, made anew in another folder by somebody with other habits, are the same octets."""
@@ -43,29 +43,29 @@ class Same(made.InFolder):
             self.skipTest("no kit, whose allocator the libraries have")
         top = self.folder / "another place"
         for name in SOURCES:
-            if (made.ROOT / name).is_dir():
-                shutil.copytree(made.ROOT / name, top / name, ignore=shutil.ignore_patterns("out", "__pycache__"))
+            if (dist.ROOT / name).is_dir():
+                shutil.copytree(dist.ROOT / name, top / name, ignore=shutil.ignore_patterns("out", "__pycache__"))
             else:
                 top.mkdir(exist_ok=True)
-                shutil.copyfile(made.ROOT / name, top / name)
-        for path in (made.PROGRAM, *made.ROOT.glob("crates/nr_c/out/libnr_c*.a"), *made.ROOT.glob("crates/*/README.md")):
-            to = top / path.relative_to(made.ROOT)
+                shutil.copyfile(dist.ROOT / name, top / name)
+        for path in (dist.PROGRAM, *dist.ROOT.glob("crates/nr_c/out/libnr_c*.a"), *dist.ROOT.glob("crates/*/README.md")):
+            to = top / path.relative_to(dist.ROOT)
             to.parent.mkdir(parents=True, exist_ok=True)
             # With its time, because make takes the second archive only if it is newer than the first.
             shutil.copy2(path, to)
         (top / "dist" / "site").mkdir(parents=True)
         (top / "dist" / "site" / "index.html").touch()
-        with tarfile.open(next(made.DIST.glob("*.tar.gz"))) as tar:
+        with tarfile.open(next(dist.DIST.glob("*.tar.gz"))) as tar:
             file = tar.extractfile(next(it for it in tar.getnames() if it.endswith("/built.json")))
             assert file
             built = json.load(file)
         commit = f"{built.get('commit', '')}@{built.get('time', '')}"
         environment = {**os.environ, "LINKSIM_COMMIT": commit, "TZ": "Asia/Tokyo", "LC_ALL": "C.UTF-8", "HOME": str(self.folder)}
         subprocess.run(
-            ["sh", "-c", "umask 077; make -s dist"], cwd=top, env=environment, check=True, timeout=made.SECONDS,
+            ["sh", "-c", "umask 077; make -s dist"], cwd=top, env=environment, check=True, timeout=dist.SECONDS,
             stdout=subprocess.DEVNULL,
         )
-        self.assertEqual((top / "dist" / "SHA256SUMS").read_text(), (made.DIST / "SHA256SUMS").read_text())
+        self.assertEqual((top / "dist" / "SHA256SUMS").read_text(), (dist.DIST / "SHA256SUMS").read_text())
         self.assertTrue((top / "dist" / "site" / "index.html").exists())
 
     def test_folders_of_others(self) -> None:
@@ -73,10 +73,10 @@ class Same(made.InFolder):
         thesis, ours = self.folder / "thesis", self.folder / "dist"
         (thesis / "text").mkdir(parents=True)
         (thesis / "text" / "chapter1.txt").write_text("all of it")
-        shutil.copytree(made.DIST, ours)
+        shutil.copytree(dist.DIST, ours)
         (ours / "notes.txt").touch()
         for script, out in (("dist", thesis), ("site", thesis), ("dist", ours)):
-            status, said = made.ran([made.ROOT / "packaging" / script, "--out", out], self.folder)
+            status, said = dist.ran([dist.ROOT / "packaging" / script, "--out", out], self.folder)
             self.assertEqual((status, said.count("\n")), (1, 1), said)
             self.assertRegex(said, r"(chapter1|notes)\.txt, which was not written there by this")
         self.assertEqual((thesis / "text" / "chapter1.txt").read_text(), "all of it")
@@ -84,12 +84,12 @@ class Same(made.InFolder):
         (ours / "site").mkdir()
         (ours / "site" / "index.html").touch()
         clear = "import pathlib, sys; from packages import staging; staging.empty(pathlib.Path(sys.argv[1]), 'site')"
-        path = os.pathsep.join(str(made.ROOT / it) for it in ("packaging", "c"))
-        made.done([sys.executable, "-c", clear, ours], environment=made.without_kit(PYTHONPATH=path))
+        path = os.pathsep.join(str(dist.ROOT / it) for it in ("packaging", "c"))
+        dist.done([sys.executable, "-c", clear, ours], environment=dist.without_kit(PYTHONPATH=path))
         self.assertEqual([it.relative_to(ours).as_posix() for it in ours.glob("**/*")], ["site", "site/index.html"])
 
 
-class Old(made.InFolder):
+class Old(dist.InFolder):
     """What is older than its sources is built anew."""
 
     def test_wheel(self) -> None:
@@ -98,20 +98,20 @@ class Old(made.InFolder):
             (self.folder / name).write_text(text)
         os.utime(self.folder / "out" / "libnr.so.3", (0, 0))
         for name in ("nr_build.py", "nr_version.py"):
-            shutil.copy(made.ROOT / "c" / name, self.folder)
-        said = made.done([sys.executable, "-c", "import nr_build; print(*nr_build.libraries().values())"], self.folder)
+            shutil.copy(dist.ROOT / "c" / name, self.folder)
+        said = dist.done([sys.executable, "-c", "import nr_build; print(*nr_build.libraries().values())"], self.folder)
         self.assertEqual(said, "b'new'\n")
 
     def test_library(self) -> None:
-        words = ["make", "-n", "-C", made.ROOT / "c", "-W", "octave/nr_sentences.h", "out/libnr.so.3"]
-        self.assertIn("fault_name.o", made.done(words))
+        words = ["make", "-n", "-C", dist.ROOT / "c", "-W", "octave/nr_sentences.h", "out/libnr.so.3"]
+        self.assertIn("fault_name.o", dist.done(words))
 
 
 class Installed(Placed):
     """`make install` and `make uninstall`, without the kit, to a folder with a space."""
 
     def make(self, *words: str | pathlib.Path) -> None:
-        made.done(["make", "-s", "-C", made.ROOT, *words, "PREFIX=/opt/my linksim", f"DESTDIR={self.folder}"])
+        dist.done(["make", "-s", "-C", dist.ROOT, *words, "PREFIX=/opt/my linksim", f"DESTDIR={self.folder}"])
 
     def test_install(self) -> None:
         self.make("install")
@@ -132,5 +132,5 @@ class Installed(Placed):
                 top = self.folder / name.replace("/", "-")
                 (top / "opt" / "share" / name).parent.mkdir(parents=True)
                 (top / "opt" / "share" / name).touch()
-                status, said = made.ran(["make", "-s", "-C", made.ROOT, "install", "PREFIX=/opt", f"DESTDIR={top}"])
+                status, said = dist.ran(["make", "-s", "-C", dist.ROOT, "install", "PREFIX=/opt", f"DESTDIR={top}"])
                 self.assertEqual((status, said.count("install: cannot"), "Error 1" in said), (2, 1, True), said)

@@ -13,10 +13,10 @@ import tempfile
 import unittest.mock
 import zipfile
 
-import made
+import dist
 import nr_version
 import test_pages
-from placed import Placed
+from installation import Placed
 
 NAME = f"linksim-{nr_version.for_archive()}-x86_64-linux"
 TRIPLET = "x86_64-linux-gnu"
@@ -31,7 +31,7 @@ def pythons() -> list[pathlib.Path]:
     named = [shutil.which(f"python3.{minor}") for minor in range(8, 20)]
     found: dict[tuple[int, ...], pathlib.Path] = {}
     for path in [*map(pathlib.Path, filter(None, named)), *pathlib.Path.home().glob(".pyenv/versions/*/bin/python3")]:
-        status, said = made.ran([path, "-c", "import sys; print(*sys.version_info[:2])"])
+        status, said = dist.ran([path, "-c", "import sys; print(*sys.version_info[:2])"])
         if not status and tuple(map(int, said.split())) >= (3, 8):
             found[tuple(map(int, said.split()))] = path
     return [found[version] for version in sorted(found)][:: max(1, len(found) - 1)]
@@ -39,7 +39,7 @@ def pythons() -> list[pathlib.Path]:
 
 def glibc_of(path: pathlib.Path) -> tuple[int, ...]:
     """The newest version of glibc among the symbols that a program or a library takes from there."""
-    said = made.done([made.needs("objdump"), "-T", path])
+    said = dist.done([dist.needs("objdump"), "-T", path])
     return max(tuple(map(int, it)) for it in re.findall(r"\bGLIBC_(\d+)\.(\d+)", said))
 
 
@@ -48,7 +48,7 @@ class Archive(Placed):
 
     def setUp(self) -> None:
         super().setUp()
-        with tarfile.open(made.DIST / f"{NAME}.tar.gz") as tar:
+        with tarfile.open(dist.DIST / f"{NAME}.tar.gz") as tar:
             self.members = tar.getmembers()
             tar.extractall(self.folder)
         self.top = self.folder / NAME
@@ -62,30 +62,30 @@ class Archive(Placed):
         for path in self.top.glob("**/*"):
             self.assertTrue(path.exists(), path)
             if path.is_file():
-                self.assertNotIn(str(made.ROOT).encode(), path.read_bytes(), path)
+                self.assertNotIn(str(dist.ROOT).encode(), path.read_bytes(), path)
 
     def test_program_and_tools(self) -> None:
         self.program(self.top / "bin")
         self.tools(self.top / "bin", self.top / "examples")
-        self.assertIn(" graph 1 ", made.done(["tools/vectors", "near", "100000"], self.top))
+        self.assertIn(" graph 1 ", dist.done(["tools/vectors", "near", "100000"], self.top))
 
     def test_pages(self) -> None:
         """The commands of these pages, as they stand there, run from the archive alone."""
         for name in ("certificates", "formats", "vectors"):
             of_page = [block._replace(text=block.text.replace("crates/linksim/out", "bin"))
                        for block in test_pages.blocks() if block.page.stem == name]
-            with unittest.mock.patch.dict(os.environ, made.without_kit(), clear=True):
+            with unittest.mock.patch.dict(os.environ, dist.without_kit(), clear=True):
                 test_pages.follow(self, self.top, of_page, "share/nr")
 
     def test_commit(self) -> None:
         """The commit is that which was packed, and not that of a repository in which the archive was unpacked."""
-        git = [made.needs("git"), "-C", self.folder, "-c", "user.name=nobody", "-c", "user.email=nobody@example.com"]
-        made.done([*git, "init", "-q"])
-        made.done([*git, "commit", "-q", "--allow-empty", "-m", "nothing"])
-        said = json.loads(made.done([self.top / "bin" / "linksim-vectors", *VECTOR], self.top / "examples"))["made"]
+        git = [dist.needs("git"), "-C", self.folder, "-c", "user.name=nobody", "-c", "user.email=nobody@example.com"]
+        dist.done([*git, "init", "-q"])
+        dist.done([*git, "commit", "-q", "--allow-empty", "-m", "nothing"])
+        said = json.loads(dist.done([self.top / "bin" / "linksim-vectors", *VECTOR], self.top / "examples"))["made"]
         built = json.loads((self.top / "share" / "linksim" / "built.json").read_text())
         self.assertEqual(said.get("commit"), built.get("commit"))
-        self.assertNotEqual(said.get("commit"), made.done([*git, "rev-parse", "HEAD"]).strip())
+        self.assertNotEqual(said.get("commit"), dist.done([*git, "rev-parse", "HEAD"]).strip())
 
     def test_pkg_config(self) -> None:
         library = self.top / "lib"
@@ -107,20 +107,20 @@ class Debian(Placed):
 
     def setUp(self) -> None:
         super().setUp()
-        made.needs("dpkg-deb")
-        self.packages = sorted(made.DIST.glob("*.deb"))
+        dist.needs("dpkg-deb")
+        self.packages = sorted(dist.DIST.glob("*.deb"))
         # pkg-config, given the folder of a root, takes no space in its name.
-        self.root = pathlib.Path(tempfile.mkdtemp(prefix="root-", dir=made.FOLDER))
+        self.root = pathlib.Path(tempfile.mkdtemp(prefix="root-", dir=dist.FOLDER))
         for path in self.packages:
-            made.done(["dpkg-deb", "-x", path, self.root])
+            dist.done(["dpkg-deb", "-x", path, self.root])
         self.library = self.root / "usr" / "lib" / TRIPLET
 
     def test_one_program(self) -> None:
         """Program and library are the same octets in each package, so that a laptop and a cluster add up their curves. What
         packages say of glibc is what these want of it."""
-        with tarfile.open(made.DIST / f"{NAME}.tar.gz") as tar:
+        with tarfile.open(dist.DIST / f"{NAME}.tar.gz") as tar:
             tar.extractall(self.folder)
-        with zipfile.ZipFile(next(made.DIST.glob("*.whl"))) as wheel:
+        with zipfile.ZipFile(next(dist.DIST.glob("*.whl"))) as wheel:
             wheel.extractall(self.folder)
         top = self.folder / NAME
         for one, others in {
@@ -130,23 +130,23 @@ class Debian(Placed):
             self.assertEqual([it.read_bytes() == one.read_bytes() for it in others], [True] * len(others))
         wanted = [glibc_of(path) for path in (top / "bin" / "linksim", top / "lib" / "libnr.so.3")]
         for package, version in zip(("linksim", "libnr3"), wanted):
-            control = made.done(["dpkg-deb", "-f", next(made.DIST.glob(f"{package}_*.deb")), "Depends"])
+            control = dist.done(["dpkg-deb", "-f", next(dist.DIST.glob(f"{package}_*.deb")), "Depends"])
             self.assertIn("libc6 (>= {}.{})".format(*version), control)
-        said = (made.ROOT / "docs" / "install.md").read_text().replace("\n", " ")
+        said = (dist.ROOT / "docs" / "install.md").read_text().replace("\n", " ")
         self.assertIn("program needs glibc {}.{}".format(*wanted[0]), said)
         self.assertIn("the libraries {}.{} and the wheel {}.{}.".format(*wanted[1], *max((2, 17), wanted[1])), said)
 
     def test_compiled(self) -> None:
         """What Python keeps of the module comes with the package, and goes with it."""
         control, log = self.folder / "control", self.folder / "log"
-        made.done(["dpkg-deb", "-e", next(made.DIST.glob("python3-nr_*.deb")), control])
+        dist.done(["dpkg-deb", "-e", next(dist.DIST.glob("python3-nr_*.deb")), control])
         for name in ("py3compile", "py3clean"):
             (self.folder / name).write_text(f'#!/bin/sh\necho {name} "$@" >> "{log}"\n')
             (self.folder / name).chmod(0o755)
-        path = made.without_kit(PATH=f"{self.folder}:/usr/bin:/bin")
+        path = dist.without_kit(PATH=f"{self.folder}:/usr/bin:/bin")
         for script, word in (("postinst", "configure"), ("prerm", "remove")):
-            made.done([control / script, word], environment=path)
-            made.done([control / script, word], environment={**path, "DPKG_ROOT": "/elsewhere"})
+            dist.done([control / script, word], environment=path)
+            dist.done([control / script, word], environment={**path, "DPKG_ROOT": "/elsewhere"})
         self.assertEqual(log.read_text(), "py3compile -p python3-nr\npy3clean -p python3-nr\n")
 
     def test_names(self) -> None:
@@ -176,21 +176,21 @@ class Debian(Placed):
 
     def test_dpkg(self) -> None:
         """dpkg installs them below a root, and takes them away again."""
-        made.needs("dpkg")
+        dist.needs("dpkg")
         root = self.folder / "other"
         for name in ("info", "updates", "triggers"):
             (root / "var" / "lib" / "dpkg" / name).mkdir(parents=True)
         (root / "var" / "lib" / "dpkg" / "status").touch()
         force = [f"--force-{it}" for it in ("not-root", "depends", "script-chrootless", "bad-path")]
         dpkg = ["dpkg", f"--root={root}", f"--log={self.folder / 'log'}", *force]
-        made.done([*dpkg, "--install", *self.packages])
+        dist.done([*dpkg, "--install", *self.packages])
         self.program(root / "usr" / "bin")
-        made.done([*dpkg, "--purge", *(path.name.split("_")[0] for path in self.packages)])
+        dist.done([*dpkg, "--purge", *(path.name.split("_")[0] for path in self.packages)])
         self.assertFalse((root / "usr" / "bin" / "linksim").exists())
 
     def test_lintian(self) -> None:
-        made.needs("lintian")
-        said = made.ran(["lintian", *self.packages])[1]
+        dist.needs("lintian")
+        said = dist.ran(["lintian", *self.packages])[1]
         self.assertEqual([line for line in said.splitlines() if line.startswith("E:")], [])
 
 
@@ -199,7 +199,7 @@ class Wheel(Placed):
 
     def test_tags(self) -> None:
         """Wherever glibc is as new as the library wants, and 2.17 at least, the wheel is taken."""
-        wheel = next(made.DIST.glob("*.whl"))
+        wheel = next(dist.DIST.glob("*.whl"))
         with zipfile.ZipFile(wheel) as packed:
             packed.extractall(self.folder)
         wanted = max((2, 17), glibc_of(self.folder / "nr" / "libnr.so.3"))
@@ -210,18 +210,18 @@ class Wheel(Placed):
 
     def test_described(self) -> None:
         """As an index of packages asks for it."""
-        said = made.done([made.needs("twine"), "check", "--strict", next(made.DIST.glob("*.whl"))])
+        said = dist.done([dist.needs("twine"), "check", "--strict", next(dist.DIST.glob("*.whl"))])
         self.assertIn("PASSED", said)
 
     def entry_points(self, folder: pathlib.Path) -> None:
         """Each tool says what it does; one that needs no program works, and one that does says in a line that it lacks it."""
         table = folder.parent / "share" / "linksim" / "examples" / "practice.csv"
         for tool in ("certify", "conform", "curve", "explain", "table", "vectors", "verify"):
-            said = made.done([folder / f"linksim-{tool}", "--help"], self.folder)
+            said = dist.done([folder / f"linksim-{tool}", "--help"], self.folder)
             self.assertIn(f"usage: linksim-{tool} ", said)
             self.assertNotIn("tools/", said)
-        self.assertEqual(made.done([folder / "linksim-explain", "Header"]).count("\n"), 3)
-        status, said = made.ran([folder / "linksim-explain", "check", "--table", table])
+        self.assertEqual(dist.done([folder / "linksim-explain", "Header"]).count("\n"), 3)
+        status, said = dist.ran([folder / "linksim-explain", "check", "--table", table])
         self.assertEqual((status, said.count("\n")), (1, 1), said)
         self.assertIn("the package linksim has it, or --program names it", said)
 
@@ -230,38 +230,38 @@ class Wheel(Placed):
         for number, python in enumerate(pythons()):
             with self.subTest(str(python)):
                 folder = self.folder / str(number)
-                made.done([python, "-m", "venv", folder])
-                words = ["-m", "pip", "install", "--no-index", "--disable-pip-version-check", *made.DIST.glob("*.whl")]
-                made.done([folder / "bin" / "python", *words])
+                dist.done([python, "-m", "venv", folder])
+                words = ["-m", "pip", "install", "--no-index", "--disable-pip-version-check", *dist.DIST.glob("*.whl")]
+                dist.done([folder / "bin" / "python", *words])
                 self.entry_points(folder / "bin")
 
     def test_wheel_and_folder(self) -> None:
-        status, said = made.ran([sys.executable, "-m", "venv", self.folder / "venv"])
+        status, said = dist.ran([sys.executable, "-m", "venv", self.folder / "venv"])
         if status:
             self.skipTest(f"no venv: {(said.strip().splitlines() or ['?'])[-1]}")
         python = self.folder / "venv" / "bin" / "python"
-        for given in [*made.DIST.glob("*.whl"), made.ROOT / "c"]:
+        for given in [*dist.DIST.glob("*.whl"), dist.ROOT / "c"]:
             with self.subTest(given.name):
-                made.done([python, "-m", "pip", "install", "--no-index", "--disable-pip-version-check", given])
+                dist.done([python, "-m", "pip", "install", "--no-index", "--disable-pip-version-check", given])
                 self.by_python(python)
                 self.reads_tables(python)
                 self.entry_points(python.parent)
-                made.done([python, "-m", "pip", "uninstall", "--yes", "nr"])
-                self.assertTrue(made.ran([python, "-c", "import nr"], self.folder)[0])
+                dist.done([python, "-m", "pip", "uninstall", "--yes", "nr"])
+                self.assertTrue(dist.ran([python, "-c", "import nr"], self.folder)[0])
 
 
-class Page(made.InFolder):
+class Page(dist.InFolder):
     """The lines of docs/install.md that unpack and install, in the folder of the packages."""
 
     def test_lines(self) -> None:
-        lines = re.findall(r"(?ms)^```sh\n(tar xf .*?)^```$", (made.ROOT / "docs" / "install.md").read_text())[0]
-        self.assertEqual(set(re.findall(r"\d+\.\d+\.\d+", lines)), {re.sub("-.*", "", made.VERSION)})
+        lines = re.findall(r"(?ms)^```sh\n(tar xf .*?)^```$", (dist.ROOT / "docs" / "install.md").read_text())[0]
+        self.assertEqual(set(re.findall(r"\d+\.\d+\.\d+", lines)), {re.sub("-.*", "", dist.VERSION)})
         # The page names a release, and the packages may be of a version that is not released yet.
         for name in re.findall(r"[\w.*-]+\.(?:tar\.gz|deb|whl)", lines):
-            (found,) = made.DIST.glob(re.sub(r"\d+\.\d+\.\d+", "*", name))
+            (found,) = dist.DIST.glob(re.sub(r"\d+\.\d+\.\d+", "*", name))
             lines = lines.replace(name, str(found)).replace(name.partition(".tar")[0], found.name.partition(".tar")[0])
         unpack, _, install = lines.replace("./", "").splitlines()
-        self.assertTrue(made.done(["sh", "-ec", unpack], self.folder).startswith("linksim "))
-        environment = made.without_kit(PIP_TARGET=self.folder / "site")
-        made.done(["sh", "-ec", install.replace("pip ", f"{sys.executable} -m pip ", 1)], self.folder, environment)
+        self.assertTrue(dist.done(["sh", "-ec", unpack], self.folder).startswith("linksim "))
+        environment = dist.without_kit(PIP_TARGET=self.folder / "site")
+        dist.done(["sh", "-ec", install.replace("pip ", f"{sys.executable} -m pip ", 1)], self.folder, environment)
         self.assertTrue((self.folder / "site" / "nr" / "__init__.py").exists())
