@@ -12,7 +12,7 @@ import typing
 import unittest
 
 import conform_shared
-import test_conform_planted as planting
+import test_encoder_mistakes as planting
 import encoder_families
 from linksim_tools.conform.case import Answer
 from linksim_tools.conform.encoder.mistakes import MISTAKES
