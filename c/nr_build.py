@@ -124,7 +124,9 @@ def build_wheel(
     with zipfile.ZipFile(pathlib.Path(wheel_directory) / name, "w") as wheel:
         for path, octets in files.items():
             member = zipfile.ZipInfo(path, when)
-            member.external_attr, member.compress_type, member.create_system = 0o100644 << 16, zipfile.ZIP_DEFLATED, 3
+            # (old versions of pip take over the mode of a script)
+            mode = 0o100755 if ".data/scripts/" in path else 0o100644
+            member.external_attr, member.compress_type, member.create_system = mode << 16, zipfile.ZIP_DEFLATED, 3
             wheel.writestr(member, octets)
     return name
 

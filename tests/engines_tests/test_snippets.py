@@ -2,8 +2,10 @@
 
 from __future__ import annotations
 
+import os
 import re
 import subprocess
+import sys
 
 import curve_files
 import dask_here
@@ -43,6 +45,8 @@ class Snippets(shared.InFolder):
         (folder / "c").symlink_to(shared.ROOT / "c")
         (folder / "examples" / "curve.toml").write_text(CONF)
         environment = {**self.hosts.environment, **self.cluster.environment}
+        # The tools are run by the Python of these tests, which has numpy.
+        environment["PATH"] = os.pathsep.join([os.path.dirname(sys.executable), environment["PATH"]])
         environment["PARALLEL_SSH"] = self.hosts.environment["PARALLEL_SSH"]
         environment["PARALLEL_HOME"] = self.hosts.environment["PARALLEL_HOME"]
         for block in blocks:

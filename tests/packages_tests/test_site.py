@@ -13,7 +13,7 @@ import dist
 # Pages with their headings: those of a server for a page that is not there have another one.
 PAGES = {
     "index.html": "linksim", "docs/overview.html": "Overview", "docs/formats.html": "Commands, files and texts",
-    "docs/theorem.html": "The theorem", "docs/rtl.html": "In a testbench of RTL", "calls/c.html": "Calls of nr.h",
+    "docs/theorem.html": "The theorem", "docs/rtl.html": "In an RTL testbench", "calls/c.html": "Calls of nr.h",
     "calls/python.html": "Calls of the Python module nr", "calls/rust.html": "Calls of the Rust crate nr",
     "man/linksim.1.html": "linksim(1)", "man/linksim-formats.5.html": "linksim-formats(5)", "crates/nr_peel/index.html": "nr_peel",
     "crates/nr_linkcommands/index.html": "nr_linkcommands",

@@ -62,8 +62,9 @@ def options() -> argparse.ArgumentParser:
     form.add_argument("--json", dest="form", action="store_const", const="json", help="with outcome: write a JSON object a line")
     form.add_argument("--csv", dest="form", action="store_const", const="csv", help="with outcome: write a record a line")
     parser.add_argument("--sent", action="store_true", help="with --json or --csv: write the sent bits too")
-    parser.add_argument("--vector", metavar="FILE", help="with chain: a vector, as tools/vectors writes it")
-    parser.add_argument("--suite", metavar="FILE", help="with chain: a suite of tools/conform, for encoders or receivers")
+    parser.add_argument("--vector", metavar="FILE", help=f"with chain: a vector, as {name_of('vectors')} writes it")
+    said = f"with chain: a suite of {name_of('conform')}, for encoders or receivers"
+    parser.add_argument("--suite", metavar="FILE", help=said)
     parser.add_argument("--case", metavar="ID", help="with chain: the case of the suite")
     parser.add_argument("--block", type=int, default=1, metavar="N", help="with chain: the block of the run (default: 1)")
     add_program(parser)
