@@ -5,11 +5,11 @@ from __future__ import annotations
 import json
 import sys
 
-import fuzzed
+import fuzz
 import shared
 
 
-class Fuzzed(shared.InFolder):
+class Fuzz(shared.InFolder):
     def test_some_files(self) -> None:
         """Each reader ends with one short line that names the file, within a gigabyte and ten seconds of a processor."""
         shared.program()
@@ -19,7 +19,7 @@ class Fuzzed(shared.InFolder):
     def test_numbers_of_other_kinds(self) -> None:
         """What was found: a seed that is a list, and a block of 10^30 bits, in a suite for receivers."""
         table = self.file("table.csv", shared.table_text({2: shared.drawn_entries(2)}))
-        head, case, *_ = map(json.loads, fuzzed.receiver_suite(table))
+        head, case, *_ = map(json.loads, fuzz.receiver_suite(table))
         for seed, bits in (([1], 24), (1, 10**30)):
             case["transmissions"][0]["a"] = bits
             path = self.file("suite.jsonl", json.dumps({**head, "seed": seed, "cases": 1}) + "\n" + json.dumps(case) + "\n")
