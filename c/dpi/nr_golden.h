@@ -97,8 +97,10 @@ uint32_t nr_golden_judge_sides(void *golden, const NrPlace *place, const uint32_
 const char *nr_golden_said(void *golden);
 
 /* The cases of a suite, as tools/conform plain writes them: `next` makes the stages of the next one, `case` says how it is sent.
+   After `only` all but the case of this id are passed over.
    Faults: HANDLE, READ, MEMORY; END; CASE; as nr_golden_send has them. */
 uint32_t nr_golden_open(void *golden, const char *path);
+uint32_t nr_golden_only(void *golden, const char *id);
 uint32_t nr_golden_next(void *golden, void *table);
 uint32_t nr_golden_case(void *golden, NrTx *tx);
 

@@ -23,7 +23,7 @@ struct NrSuite {
     FILE *cases, *answers;
     NrTx tx;
     Given stages[NR_STAGES];
-    char id[MOST_LETTERS + 1], line[MOST_LINE];
+    char id[MOST_LETTERS + 1], only[MOST_LETTERS + 1], line[MOST_LINE];
 };
 
 void nr_suite_free(NrSuite *suite) {
@@ -95,24 +95,40 @@ static int read_pair(NrSuite *suite, NrSettings *settings, const char *name, con
     return 0;
 }
 
-uint32_t nr_golden_next(void *golden, void *table) {
-    static const char *const BLANKS = " \t\r\n";
+uint32_t nr_golden_only(void *golden, const char *id) {
     NrStaged *it = with_suite(golden);
     if (!it) return NR_GOLDEN_HANDLE;
-    NrSuite *suite = it->suite;
-    NrSettings settings;
-    const char *hex = NULL;
+    if (strlen(id) > MOST_LETTERS) return NR_GOLDEN_CASE;
+    strcpy(it->suite->only, id);
+    return NR_OK;
+}
+
+/* Reads the next case. */
+static uint32_t read_case(NrSuite *suite, NrSettings *settings, const char **hex) {
+    static const char *const BLANKS = " \t\r\n";
     uint32_t status = read_line(suite);
     if (status != NR_OK) return status;
-    memset(&settings, 0, sizeof settings);
+    memset(settings, 0, sizeof *settings);
     memset(&suite->tx, 0, sizeof suite->tx);
     suite->tx.qm = suite->tx.nl = 1;
     suite->id[0] = 0;
     for (char *name = strtok(suite->line, BLANKS); name; name = strtok(NULL, BLANKS)) {
         const char *value = strtok(NULL, BLANKS);
-        if (!value || !read_pair(suite, &settings, name, value, &hex)) return NR_GOLDEN_CASE;
+        if (!value || !read_pair(suite, settings, name, value, hex)) return NR_GOLDEN_CASE;
     }
-    if (!suite->id[0] || !hex) return NR_GOLDEN_CASE;
+    return suite->id[0] && *hex ? (uint32_t)NR_OK : (uint32_t)NR_GOLDEN_CASE;
+}
+
+uint32_t nr_golden_next(void *golden, void *table) {
+    NrStaged *it = with_suite(golden);
+    if (!it) return NR_GOLDEN_HANDLE;
+    NrSuite *suite = it->suite;
+    NrSettings settings;
+    const char *hex = NULL;
+    do {
+        uint32_t status = read_case(suite, &settings, &hex);
+        if (status != NR_OK) return status;
+    } while (suite->only[0] && strcmp(suite->id, suite->only));
     for (int i = 0; i < NR_STAGES; i++) {
         Given *mine = &suite->stages[i];
         mine->count = mine->blocks = mine->commas = 0;

@@ -122,7 +122,7 @@ static uint32_t golden_judge_sides(Call *call) {
     return call->status == NR_OK ? nr_golden_judge_sides(golden, &place, keep, last) : call->status;
 }
 
-/* A call of a golden transmission and a file. */
+/* A call of a golden transmission and a file, or an id. */
 static uint32_t with_path(Call *call, uint32_t (*does)(void *, const char *)) {
     void *golden = handle(call, 0);
     char *path = text(call, 1);
@@ -132,6 +132,7 @@ static uint32_t with_path(Call *call, uint32_t (*does)(void *, const char *)) {
 }
 
 static uint32_t golden_open(Call *call) { return with_path(call, nr_golden_open); }
+static uint32_t golden_only(Call *call) { return with_path(call, nr_golden_only); }
 static uint32_t golden_answer(Call *call) { return with_path(call, nr_golden_answer); }
 
 /* A call of a golden transmission and a table, or of the first alone. */
@@ -213,6 +214,7 @@ static const Entry CALLS[] = {
     {"$nr_golden_judge", 8, golden_judge},
     {"$nr_golden_judge_sides", 8, golden_judge_sides},
     {"$nr_golden_open", 2, golden_open},
+    {"$nr_golden_only", 2, golden_only},
     {"$nr_golden_next", 2, golden_next},
     {"$nr_golden_case", 5, golden_case},
     {"$nr_golden_expect", 5, golden_expect},

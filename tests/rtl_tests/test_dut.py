@@ -70,7 +70,7 @@ class Dut(unittest.TestCase):
 
     def test_once(self) -> None:
         """The first parity column is turned back by a value from which Zc is subtracted once too: no single mistake has both."""
-        self.found("once", "LDPC", "nearest: shift-subtracted-lost", "exactly where Zc <= 96")
+        self.found("once", "LDPC", "exactly where Zc <= 96")
 
     def test_past(self) -> None:
         self.found("past", "selection", r"e_\d+ is d_\d+ \(k0 = \d+, Ncb = \d+", "wrapped-late")

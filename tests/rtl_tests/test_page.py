@@ -21,12 +21,14 @@ TASKS = """
 reg [31:0] m_tdata;
 reg [3:0] m_tkeep;
 reg m_tlast;
+// A pin that is narrower than the `int unsigned` it is given.
+reg [3:0] pin;
 int unsigned block = 0, driven, at, wrong;
 nr_beat_t beat;
 dut unit();
 initial if (!$value$plusargs("wrong=%d", wrong)) wrong = 0;
 task drive(input int unsigned r);
-  block = block + 1; driven = r; at = 0;
+  block = block + 1; driven = r; at = 0; pin = r;
 endtask
 task next_beat;
   void'(nr_ok("golden_beat", nr_dpi_golden_beat(board.golden, NR_F, driven, at, 32, NR_LSB, beat)));
@@ -76,6 +78,8 @@ class Page(clib.InFolder):
         said = self.simulated("+wrong=2")
         self.assertRegex(said, r"case [\w-]+, f of code block r = 0: bit 3 is [01], right is [01] \(beat 0, tdata\[3\]\)")
         self.assertIn(" cases, 1 faults\n", said)
+        first = (self.folder / "cases.txt").read_text().split()[1]
+        self.assertIn("nr_scoreboard: 1 cases, 0 faults\n", self.simulated(f"+only={first}"))
         self.odd_cases()
 
     def simulated(self, *words: str) -> str:
