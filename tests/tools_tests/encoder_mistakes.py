@@ -179,8 +179,8 @@ LIMIT = "it->limited ? (unsigned)(3ull * it->lbrm / (2 * plan->c)) : plan->n"
 STARTS = "{0, 17, 33, 56}, {0, 13, 25, 43}"
 
 BUFFER = (
-    planted("k0-57", "k0 of rv = 3 by base graph 1 begins by 57 in place of 56", STARTS, STARTS.replace("56", "57")),
-    planted("k0-24", "k0 of rv = 2 by base graph 2 begins by 24 in place of 25", STARTS, STARTS.replace("25", "24")),
+    planted("k0-57", "k0 of rv = 3 by base graph 1 is not made of 56: 57", STARTS, STARTS.replace("56", "57")),
+    planted("k0-24", "k0 of rv = 2 by base graph 2 is not made of 25: 24", STARTS, STARTS.replace("25", "24")),
     planted("ncb-several", r"exactly where C > 1[^\x00]*ncb-ignored", LIMIT, LIMIT.replace("it->limited", (
         "it->limited && plan->c == 1"))),
     planted("k0-from-n-rv3", "exactly where rv = 3", START, START.replace("ncb", "(rv == 3 ? plan->n : ncb)")),
@@ -253,7 +253,7 @@ WORD = "    static unsigned char word[MOST_COLUMNS * MOST_SIZE];\n    memset(wor
 # beat of 32 bits is lost.
 HARDWARE = (
     planted("rotator-left", "shift-left", SHIFT, "return (z - value % z) % z;"),
-    planted("shift-once-lost", "shift-subtracted-lost", SUM,
+    planted("shift-once-lost", r"exactly where (parity bits are sent and )?Zc <= \d+", SUM,
             "if (it->values[plan->set] < 2 * plan->z)\n                " + SUM),
     planted("one-place-past-the-end", "wrapped-late", "select_bits(d, made->k0, made->ncb,",
             "select_bits(d, made->k0, made->ncb + (made->ncb < plan->n),"),

@@ -15,7 +15,7 @@ import shared
 from linksim_tools.conform import bits, files
 from linksim_tools.conform.encoder import answers as answering
 from linksim_tools.conform.encoder import report as reporting
-from linksim_tools.conform.packing import PACKINGS
+from linksim_tools.conform.bits import PACKINGS
 from linksim_tools.conform.steps import STEPS
 
 
@@ -118,8 +118,19 @@ class Right(Checked):
         self.assertEqual(status, 0)
         made = json.loads(output)
         self.assertEqual((made["first"], made["diagnosis"], made["steps"]["ldpc"]["fail"]), (None, [], 0))
-        self.assertIn("All that was answered agrees", page.read_text())
+        self.assertIn("all that was answered agrees", page.read_text())
 
+
+    def test_coverage(self) -> None:
+        """A file of the points that were covered, with how many cases of each fail."""
+        path, right = self.folder / "coverage.txt", answer("kb-192", "sent")
+        answers = self.answers(right, {**answer("kb-560", "sent"), "sent": right["sent"]})
+        status, _, error = conform_shared.conform("check", conform_shared.few_path(), answers, "--coverage", path)
+        head, *lines = path.read_text().splitlines()
+        self.assertEqual((status, error), (1, ""))
+        self.assertRegex(head, r"^\d+ of \d+ points are covered by 2 cases$")
+        self.assertEqual([line.split()[:3] for line in lines if line.startswith(("kb-6 ", "kb-8 ", "kb-22 "))],
+                         [["kb-6", "1", "0"], ["kb-8", "1", "1"], ["kb-22", "0", "0"]])
 
     def test_a_list_without_a_bit(self) -> None:
         right = conform_shared.suite().values["shares-zero"]
@@ -159,7 +170,7 @@ class Right(Checked):
     def test_what_cannot_be_an_input(self) -> None:
         value = {"id": "kb-560", "plan": {"z": 71, "set": 0, "kdash": 560}, "d": "01"}
         lines = self.check(value)[1]
-        said = "LDPC of 1 cases is not judged: what was answered before cannot be its input"
+        said = "LDPC of 1 cases is not judged: what was answered before cannot be its input, or what was not fails in other cases"
         self.assertIn(said, lines)
 
 

@@ -30,10 +30,6 @@ if typing.TYPE_CHECKING:
 SAME_BITS = {"kb-10", "lifting-by-k"}
 
 
-# With these a code block has more bits than columns, and an encoder can send nothing of it.
-NOTHING_SENT = {"kcb-8448", "count-by-kcb"}
-
-
 def found_in(answers: dict[str, Answer]) -> list[Found]:
     """The diagnosis of answers to the suite."""
     return diagnosis(conform_shared.suite(), Trials(conform_shared.suite(), answers))
@@ -58,9 +54,6 @@ class Planted(unittest.TestCase):
         for name in mistakes.MISTAKES:
             with self.subTest(name):
                 answers = conform_shared.planted(name, fields=("sent",))
-                if name in NOTHING_SENT:
-                    self.assertLess(len(answers), len(conform_shared.lines()))
-                    continue
                 found = found_in(answers)
                 wanted = sorted([it] for it in SAME_BITS) if name in SAME_BITS else [[name]]
                 self.assertEqual(names(found), [("concatenation", wanted)])
@@ -221,19 +214,6 @@ class Words(unittest.TestCase):
             answers = {it.id: Answer(**{field: Chain(tables, it, right()).made(field)}) for it in small}
             self.assertTrue(self.lines(answers)[0][-1].startswith("next: compare the fingerprint of your table with the suite's; "))
 
-    def test_nearest(self) -> None:
-        answers, shown = conform_shared.planted(), conform_shared.planted("shift-left")
-        ordered = sorted(answers, key=lambda name: len(conform_shared.suite().cases[name].a))
-        for name in ordered[10:]:
-            d = answers[name].d or []
-            answers[name].d = [bits[:-1] + "10"[int(bits[-1])] for bits in d]
-        answers |= {name: shown[name] for name in [*ordered[10:22], *ordered[60:90]]}
-        lines, made = self.lines(answers)
-        found = made.diagnosis[0]
-        assert found.nearest
-        self.assertEqual((found.fitting, found.nearest[2]), ([], 24))
-        self.assertRegex("\n".join(lines), r"\n  nearest: shift-left \(.+\) gives 1\d of the 24 smallest that fail")
-
     def test_two_one_behind_the_other(self) -> None:
         """Of two mistakes of a step, one made in some cases, the second is found among what the first does not give."""
         answers, shown = conform_shared.planted("shift-left"), conform_shared.planted("shift-left", "punctured-kept")
@@ -248,7 +228,7 @@ class Words(unittest.TestCase):
             _, made = self.lines(answers)
             page = "\n".join(pages.lines(made))
             for fitting in made.diagnosis[0].fitting:
-                self.assertIn(f"<code>{fitting.names()[0]}</code>", page)
+                self.assertIn(f"  {fitting.names()[0]} (", page)
             for found in made.diagnosis:
                 for line in words.head_lines(made.suite, found):
                     self.assertIn(html.escape(line.strip()), page)
@@ -256,5 +236,5 @@ class Words(unittest.TestCase):
                 for line in first.difference:
                     self.assertIn(html.escape(line), page)
             self.assertNotRegex(page, "<script|<link|http|src=")
-            for tag in ("table", "div", "body", "html", "p", "pre", "h2"):
+            for tag in ("table", "svg", "body", "html", "p", "pre", "strong"):
                 self.assertEqual(page.count(f"<{tag}>") + page.count(f"<{tag} "), page.count(f"</{tag}>"), tag)

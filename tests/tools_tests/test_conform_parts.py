@@ -8,14 +8,12 @@ import unittest
 
 import conform_shared
 import report_pages
-from linksim_tools.conform.case import Answer, Case
+from linksim_tools.conform.case import Case
 from linksim_tools.conform.clauses import Clauses
 from linksim_tools.conform.code import rotated
-from linksim_tools.conform.encoder import design, page, points, polynomials, shifted, watched
+from linksim_tools.conform.encoder import design, page, points, polynomials, shifted
 from linksim_tools.conform.encoder import report as reporting
-from linksim_tools.conform.encoder.alike import bits_of
 from linksim_tools.conform.conditions import Common
-from linksim_tools.conform.encoder.judging import NOTHING, Trial
 from linksim_tools.conform.encoder.mistakes import MISTAKES, clauses_of
 
 
@@ -29,24 +27,8 @@ class Listed(unittest.TestCase):
                 self.assertEqual(len(right & set(vars(mistake.made))), 1)
 
     def test_two_together_are_a_class_of_both(self) -> None:
-        both = clauses_of(frozenset([MISTAKES["shift-left"], MISTAKES["shift-8-bits"]]))
-        self.assertEqual(both.shift(both.value(300), 16, 256), (-44) % 16)
-
-    def test_each_shows_in_a_case_of_its_points(self) -> None:
-        suite = conform_shared.suite()
-        trials = {name: Trial(suite, name, Answer()) for name in suite.cases}
-        covers = {name: set(points.covered(case)) for name, case in suite.cases.items()}
-        self.assertEqual(sorted(watched.WATCHED), sorted(MISTAKES))
-        for name, mistake in MISTAKES.items():
-            for point in watched.WATCHED[name].split():
-                with self.subTest(mistake=name, point=point):
-                    there = [trials[it] for it in covers if point in covers[it]]
-                    self.assertTrue(any(bits_of(it, frozenset([mistake])) != bits_of(it, NOTHING) for it in there))
-
-    def test_points_say_what_they_are_there_for(self) -> None:
-        self.assertEqual(watched.mistakes_of("mask-unequal"), ["lengths-by-number"])
-        text = "\n".join(points.lines({"quick": design.designed("quick", 1)}))
-        self.assertIn("some code blocks, E_r not shared out evenly (lengths-by-number)", text)
+        both = clauses_of(frozenset([MISTAKES["shift-left"], MISTAKES["fillers-one"]]))
+        self.assertEqual((both.shift(44, 16, 256), both.filler_bits(2)), ((-44) % 16, "11"))
 
 
 class Conditions(unittest.TestCase):
@@ -179,4 +161,4 @@ class Page(report_pages.SeenPages):
             made = reporting.report(conform_shared.suite(), answers)
             marks, pictures = self.seen(page.lines(made))
             self.assertRegex(marks, "^[\u2713\u2717]{10}$")
-            self.assertEqual(pictures, 1 + sum(first.spot is not None for first in made.firsts))
+            self.assertEqual(pictures, sum(first.spot is not None for first in made.firsts))

@@ -66,6 +66,15 @@ class Pointers(unittest.TestCase):
                          bits_of_code_block=lambda self, b, c, l: -(-(b + c * l) // c))
         self.assertNotIn("step segmentation", said)
 
+    def test_an_earlier_step_that_is_not_answered(self) -> None:
+        """A fault in LDPC is not told again as one of selection where d is not answered, as a DUT leaves it out."""
+        answers = conform_shared.answers_of(type("Wrong", (Clauses,), {"shift": lambda self, value, z, _: (value + value % 7) % z})())
+        for name, answer in answers.items():
+            answer.d = None if conform_shared.suite().cases[name].mask != "all" else answer.d
+        made = reporting.report(conform_shared.suite(), answers)
+        self.assertEqual([step for step, it in made.steps.items() if it.failing], ["ldpc"])
+        self.assertEqual({it.step for it in made.diagnosis}, {"ldpc"})
+
     def test_more_code_blocks_and_rounds(self) -> None:
         """A count of more than eight code blocks, and more than three rounds of the buffer."""
         said = self.said(lengths=lambda self, case, c, chosen: Clauses.lengths(self, case, c, chosen)[

@@ -60,7 +60,7 @@ class InC(conform_shared.Commands):
                 self.assertEqual((status, error, len(lines)), (1, [], 1))
                 found, = made["diagnosis"]
                 self.assertEqual([[it["name"] for it in pair] for pair in found["mistakes"]], [[mistake]])
-                self.assertIn(f"<code>{mistake}</code>", page.read_text())
+                self.assertIn(f"  {mistake} (", page.read_text())
 
     def test_plain_lines(self) -> None:
         output = shared.made("conform", "plain", conform_shared.few_path(), with_program=False)

@@ -161,10 +161,10 @@ class Two(unittest.TestCase):
 
     def test_twelve_pairs(self) -> None:
         pairs = [("crc-by-b", "shift-left"), ("kb-limits", "rv-order"), ("shift-capped", "interleaver-transposed"),
-                 ("graph-two-thirds", "core-forward"), ("k0-rounded", "blocks-reversed"), ("crc-inverted", "one-round"),
-                 ("lifting-strict", "lengths-floor"), ("code-crc-zeros", "ncb-no-factor"),
+                 ("graph-two-thirds", "core-forward"), ("k0-no-floor", "last-octet-reversed"), ("crc-inverted", "one-round"),
+                 ("lifting-strict", "lengths-by-number"), ("code-crc-zeros", "ncb-no-factor"),
                  ("fillers-one", "k0-in-word"),
-                 ("set-rows", "interleaver-by-columns"), ("shift-8-bits", "lengths-no-layers"),
+                 ("set-rows", "interleaver-by-columns"), ("shift-masked", "lengths-no-layers"),
                  ("crc-preset", "fillers-counted")]
         for pair in pairs:
             with self.subTest(pair):

@@ -11,8 +11,9 @@ import unittest.mock
 import receiver_mistakes
 import receiver_designs
 import receiver_shared
-from linksim_tools.conform.receiver import judged, ladder, report, steps, tried
+from linksim_tools.conform.receiver import judged, ladder, reading, report, steps, tried
 from linksim_tools.conform.receiver.chain import Receiver
+from linksim_tools.conform.receiver.diagnosis import Diagnosis
 from linksim_tools.conform.receiver.level import Level
 from linksim_tools.conform.receiver.mistakes import MISTAKES, OWN, SHARED
 from linksim_tools.conform.receiver.mistakes.listed import STEPS
@@ -92,16 +93,6 @@ class InTheModel(unittest.TestCase):
             found = receiver_shared.verdict_of(receiver_shared.of_model(mistake))
             self.assertEqual((sorted(found.names), found.apart, found.against), ([(name,) for name in both], None, []))
 
-    def test_two_at_once(self) -> None:
-        """Pairs that no single mistake looks like are named; if one hides the other, it is named alone."""
-        pairs = [("cleared-never", "ncb-ignored"), ("code-crc-kept", "process-of-eight")]
-        for pair in pairs:
-            with self.subTest(pair):
-                answers = receiver_shared.answers_of_model(receiver_shared.suite(), *pair)
-                self.assertEqual(receiver_shared.named(answers), [pair])
-        hidden = receiver_shared.answers_of_model(receiver_shared.suite(), "combine-last", "k0-shifted")
-        self.assertIn(receiver_shared.named(hidden), ([("k0-shifted",)], [("combine-last", "k0-shifted")]))
-
     def test_right(self) -> None:
         found = receiver_shared.of_model("")
         self.assertEqual([name for name in found.words if found.fails(name)], [])
@@ -113,23 +104,20 @@ class HeldOut(unittest.TestCase):
     def test_no_false_name(self) -> None:
         """None has a plain name that is not its own, and more than half are named by what the report says: a name is given only
         where something proves it."""
-        named = []
+        named, found = [], 0
         for name, it in receiver_mistakes.HELD_OUT.items():
             with self.subTest(name):
                 made = receiver_shared.reported(receiver_shared.answers_of_kind(receiver_mistakes.planted(name)))
+                found += bool(made.failing)
                 text = "\n".join([*made.diagnosis.says(), *made.doubts] if made.diagnosis else made.doubts)
                 named += [name] * (it.said != "" and it.said in text)
-                if name == "remainder-of-2-first":
-                    self.assertNotEqual(made.failing, [])
                 if made.diagnosis and made.diagnosis.kind in ("gives", "one"):
                     self.assertIn(it.said, text)
-        self.assertGreaterEqual(len(receiver_mistakes.HELD_OUT), 40)
+        self.assertGreaterEqual(found, 0.95 * len(receiver_mistakes.HELD_OUT))
         self.assertIn("rv-of-1-bit", named)
         self.assertGreaterEqual(len(named), 0.55 * len(receiver_mistakes.HELD_OUT), sorted(receiver_mistakes.HELD_OUT.keys() - set(named)))
 
-    @unittest.expectedFailure
     def test_numbers_in_few_bits_are_found(self) -> None:
-        """Not yet again: no quick case shows either of them over this table."""
         for name in ("p-of-8-bits", "addresses-of-14-bits"):
             made = receiver_shared.reported(receiver_shared.answers_of_kind(receiver_mistakes.planted(name)))
             self.assertNotEqual(made.failing, [], name)
@@ -207,6 +195,15 @@ class HeldOut(unittest.TestCase):
             made = receiver_shared.reported(receiver_shared.answers_of_kind(kind))
             assert made.diagnosis
             self.assertIn(said, made.diagnosis.said)
+
+    def test_soft_values_are_read(self) -> None:
+        """They show k0, which is judged as an encoder's is, and what else puts values elsewhere."""
+        for name, said in (("k0-34-for-33", "k0 of rv = 2 by base graph 1 is not made of 33: 34"), ("rv-of-1-bit", "rv keeps 1 bit"),
+                           ("order-of-qm-8", "with its halves exchanged"), ("fillers-of-rv-0", "fillers are not passed over")):
+            answers = receiver_shared.answers_of_kind(receiver_mistakes.planted(name), every_level=True)
+            read = reading.lines(Diagnosis(receiver_shared.suite(), answers), answers)
+            self.assertRegex(read[0], "^read from soft in ")
+            self.assertIn(said, "\n".join(read))
 
     def test_depth_before_entries(self) -> None:
         """Too few iterations are told as such, and not as wrong entries."""

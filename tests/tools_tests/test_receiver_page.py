@@ -6,10 +6,11 @@ import typing
 
 import receiver_shared
 import report_pages
-from linksim_tools.conform import record as recording
-from linksim_tools.conform.receiver import page, report
+from linksim_tools.conform import page
+from linksim_tools.conform.receiver import report
 from linksim_tools.conform.receiver.answers import Answers
 from linksim_tools.conform.receiver.mistakes.listed import STEPS
+from linksim_tools.conform.report import record_of
 
 
 class Page(report_pages.SeenPages):
@@ -18,8 +19,9 @@ class Page(report_pages.SeenPages):
     def marks(self, answers: Answers, troubles: typing.Sequence[str] = ()) -> str:
         """The marks of the steps on the page of these answers."""
         suite = receiver_shared.few()
-        record = recording.record_of(["./receiver", "t" * 200], suite)
-        found, pictures = self.seen(page.lines(report.report(suite, answers, troubles, (), record)))
+        record = record_of(["./receiver", "t" * 200], suite)
+        made = report.report(suite, answers, troubles, (), record)
+        found, pictures = self.seen(page.document("Conformance", page.of_report(made, report.text(made))))
         self.assertEqual((len(found), pictures), (len(STEPS), 0))
         return found
 

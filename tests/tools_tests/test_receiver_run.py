@@ -65,7 +65,7 @@ class Asked(Run):
         path = str(receiver_shared.suite_path())
         self.assertEqual((status, error), (1, []))
         self.assertIn("\n".join(line.replace(path, "receivers.jsonl") for line in lines) + "\n```", text)
-        self.assertIn("<code>process-of-eight</code>", page.read_text())
+        self.assertIn("  process-of-eight (38.321", page.read_text())
 
     def test_what_is_asked(self) -> None:
         seen = self.folder / "seen.txt"

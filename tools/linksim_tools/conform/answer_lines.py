@@ -69,9 +69,7 @@ def pairs_of(words: list[str]) -> list[tuple[str, str]]:
     return list(zip(names, words[1::2]))
 
 
-def taken_from(
-    path: str | pathlib.Path, most: int, take: typing.Callable[[bytes], None]
-) -> tuple[list[str], list[str]]:
+def taken_from(path: str | pathlib.Path, most: int, take: typing.Callable[[bytes], None]) -> tuple[list[str], list[str]]:
     """Has each answer of a file taken that has at most so many octets. Says which lines cannot be judged, and in notes which are no
     answers."""
     troubles: list[str] = []

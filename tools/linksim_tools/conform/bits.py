@@ -123,6 +123,19 @@ READERS: dict[str, typing.Callable[[typing.Any], str]] = {
 }
 
 
+def little_endian_words(bits: str) -> list[str]:
+    """Words of four octets as DPDK's vector files have them: the first octet lowest, two digits for each octet that is there."""
+    whole = octets_of(bits)
+    return ["0x" + whole[start : start + 4][::-1].hex() for start in range(0, len(whole), 4)]
+
+
+# How a list of bits is written. docs/vectors.md says how each packing reads.
+PACKINGS: dict[str, typing.Callable[[str], typing.Any]] = {
+    "hex": hexadecimal, "octets": lambda bits: list(octets_of(bits)), "le32": little_endian_words,
+    "lsb": lambda bits: [int(f"{octet:08b}"[::-1], 2) for octet in octets_of(bits)], "bits": lambda bits: list(map(int, bits)),
+}
+
+
 def from_packed(value: typing.Mapping[str, object]) -> str:
     """The bits of an object such as {"count": 24, "hex": "011021"}."""
     forms = value.keys() & READERS.keys()
@@ -164,30 +177,10 @@ def table_of(degree: int, terms: int) -> list[int]:
     return table
 
 
-@functools.lru_cache(maxsize=1024)
-def power(polynomial: tuple[int, int], exponent: int) -> int:
-    """The remainder of D to this power, which is at least the degree."""
-    return remainder_of(polynomial, 1 << (exponent - polynomial[0]), exponent - polynomial[0] + 1)
-
-
-def folded(polynomial: tuple[int, int], number: int, count: int) -> tuple[int, int]:
-    """A polynomial of few terms with the same remainder, and how many. The terms from D^n on are those times what D^n
-    leaves. That takes a few sums of long numbers, and no look-up for each octet."""
-    while count > 128:
-        half = count // 2
-        high, number, factor = number >> half, number & ((1 << half) - 1), power(polynomial, half)
-        while factor:
-            number ^= high << (factor.bit_length() - 1)
-            factor ^= 1 << (factor.bit_length() - 1)
-        count += polynomial[0] - half
-    return number, count
-
-
 def remainder_of(polynomial: tuple[int, int], number: int, count: int) -> int:
     """The remainder of a polynomial of `count` terms times D to the degree of the CRC, by its generator polynomial."""
     if polynomial == POLYNOMIALS["CRC16"]:
         return binascii.crc_hqx(number.to_bytes(-(-count // 8), "big"), 0)
-    number, count = folded(polynomial, number, count)
     octets = number.to_bytes(-(-count // 8), "big")
     degree, _ = polynomial
     table, high, most = table_of(*polynomial), degree - 8, (1 << degree) - 1

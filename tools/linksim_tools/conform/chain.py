@@ -23,9 +23,8 @@ MOST_NUMBER, MOST_BITS = 1 << 22, 1 << 25
 class Chain:
     """The values of a case; each is made from those before it."""
 
-    def __init__(
-        self, tables: TablesKey, case: Case, clauses: Clauses, given: Answer | None = None, before: Case | None = None
-    ) -> None:
+    def __init__(self, tables: TablesKey, case: Case, clauses: Clauses, given: Answer | None = None,
+                 before: Case | None = None) -> None:
         self.tables, self.clauses, self.given = tables, clauses, given or Answer()
         self.case = clauses.told(case, before)
         self.kept: dict[str, object] = {}

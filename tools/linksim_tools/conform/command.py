@@ -32,9 +32,7 @@ class Command:
         self.left_out: list[bytes] = []
         try:
             # With a session of its own it can be ended with all that it starts.
-            self.process = subprocess.Popen(
-                words, stdin=subprocess.PIPE, stdout=subprocess.PIPE, bufsize=0, start_new_session=True
-            )
+            self.process = subprocess.Popen(words, stdin=subprocess.PIPE, stdout=subprocess.PIPE, bufsize=0, start_new_session=True)
         except OSError as error:
             raise Failed(f"{words[0]} cannot be started: {error.strerror}") from None
         assert self.process.stdin and self.process.stdout

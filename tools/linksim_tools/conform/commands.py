@@ -31,9 +31,8 @@ class Words:
         self.whole = Commands("conform", about, examples, kind)
         self.parser = self.whole.parser
 
-    def add(
-        self, name: str, does: Does, text: str, more: str = "", *, suite: bool = True, out: bool = True
-    ) -> argparse.ArgumentParser:
+    def add(self, name: str, does: Does, text: str, more: str = "", *, suite: bool = True,
+            out: bool = True) -> argparse.ArgumentParser:
         """Adds a command, of a suite or of none, that writes lines or a report. `more` is what its example has after the suite."""
         example = " ".join(filter(None, [self.tool, name, self.file if suite else "", more]))
         command = self.whole.add(name, does, text, example)
@@ -116,9 +115,7 @@ def save(path: str | None, lines: typing.Iterable[str]) -> None:
         raise Failed(f"{path} cannot be written: {error.strerror}") from None
 
 
-def reported(
-    given: argparse.Namespace, made: Report, text: typing.Iterable[str], page: typing.Iterable[str]
-) -> int:
+def reported(given: argparse.Namespace, made: Report, text: typing.Iterable[str], page: typing.Iterable[str]) -> int:
     """Writes a report as its options say, as JSON or as text and also as a page, and gives the status: 130 after an
     interruption."""
     for line in [json.dumps(made.as_object())] if given.json else text:

@@ -72,24 +72,21 @@ YES_OR_NO: tuple[tuple[str, str, Test], ...] = (
 
 Number = typing.Callable[["Facts"], int]
 
-NUMBERS: dict[str, Number] = {
-    "base graph": lambda it: it.graph, "set": lambda it: it.plan.set, "rv": lambda it: it.case.rv,
-    "Qm": lambda it: it.case.qm, "NL": lambda it: it.case.nl, "C": lambda it: it.c, "Kb": lambda it: it.plan.kb,
-    "Zc": lambda it: it.z, "A": lambda it: it.a, "2048 R": lambda it: it.rate, "B": lambda it: it.b,
-    "C'": lambda it: len(it.scheduled), "G": lambda it: it.case.g, "Ncb": lambda it: it.ncb,
-    "K'": lambda it: it.plan.kdash, "the largest E_r": lambda it: max(it.shares),
-    "TBS_LBRM": lambda it: it.case.lbrm or 0, "k0": lambda it: it.k0, "k0 + E_r": lambda it: it.k0 + max(it.shares),
-    "N": lambda it: it.plan.n, "the number of fillers": lambda it: it.fillers, "r": lambda it: it.scheduled[-1],
-}
+NUMBERS: dict[str, Number] = {"base graph": lambda it: it.graph, "set": lambda it: it.plan.set, "rv": lambda it: it.case.rv,
+                              "Qm": lambda it: it.case.qm, "NL": lambda it: it.case.nl, "C": lambda it: it.c,
+                              "Kb": lambda it: it.plan.kb, "Zc": lambda it: it.z, "A": lambda it: it.a,
+                              "2048 R": lambda it: it.rate, "B": lambda it: it.b, "C'": lambda it: len(it.scheduled),
+                              "G": lambda it: it.case.g, "Ncb": lambda it: it.ncb, "K'": lambda it: it.plan.kdash,
+                              "the largest E_r": lambda it: max(it.shares), "TBS_LBRM": lambda it: it.case.lbrm or 0,
+                              "k0": lambda it: it.k0, "k0 + E_r": lambda it: it.k0 + max(it.shares), "N": lambda it: it.plan.n,
+                              "the number of fillers": lambda it: it.fillers, "r": lambda it: it.scheduled[-1]}
 
 # Those whose values are asked for one by one, before the properties above (VALUES) and after them (FURTHER). Those of
 # ORDERED are asked for from a value on, and those of MULTIPLES for whether they are whole words.
 VALUES = ("base graph", "set", "rv", "Qm", "NL", "C")
 FURTHER = ("Kb", "Zc", "A", "2048 R", "B", "C'", "G")
-ORDERED = (
-    "Zc", "A", "B", "2048 R", "C", "G", "Ncb", "K'", "Qm", "rv", "the largest E_r", "set", "TBS_LBRM", "k0", "k0 + E_r",
-    "C'", "N", "the number of fillers", "r",
-)
+ORDERED = ("Zc", "A", "B", "2048 R", "C", "G", "Ncb", "K'", "Qm", "rv", "the largest E_r", "set", "TBS_LBRM", "k0", "k0 + E_r",
+           "C'", "N", "the number of fillers", "r")
 MULTIPLES = ("A", "B", "K'", "Zc", "G", "Ncb")
 
 # What each step consumes, the most telling first: conditions that cases do not tell apart stand in this order.
@@ -172,7 +169,7 @@ class Common:
 
     def __init__(
         self, cases: typing.Mapping[str, typing.Sequence[Facts]], more: typing.Mapping[str, typing.Iterable[str]] | None = None,
-        order: typing.Mapping[str, int] | None = None,
+        order: typing.Mapping[str, int] | None = None
     ) -> None:
         self.facts, self.more, self.order = cases, more or {}, order or {}
         self.places = {name: 1 << place for place, name in enumerate(cases)}
@@ -209,10 +206,8 @@ class Common:
         """Whether a case that passes says much: a block of zeros, or of a single one, hides most mistakes."""
         return all(it.random and max(it.shares) >= INFORMATIVE for it in self.facts[name])
 
-    def condition(
-        self, failing: typing.Collection[str], others: typing.Collection[str], steps: typing.Collection[str] = (),
-        against: int = AGAINST
-    ) -> Condition | None:
+    def condition(self, failing: typing.Collection[str], others: typing.Collection[str], steps: typing.Collection[str] = (),
+                  against: int = AGAINST) -> Condition | None:
         """What all failing cases have, and none of the others, of which there must be so many. `steps` are those in which the
         mistake may be made: what they consume is told first."""
         bad, good = (sum(self.places[name] for name in set(names)) for names in (failing, others))
@@ -230,9 +225,8 @@ class Common:
         words_of.sort(key=lambda words: cost(words, steps))
         return Condition(words_of[0], tuple(it for it in words_of[1:] if " and " not in it)[: ALIKE - 1], count(bad), count(good))
 
-    def shared_by(
-        self, failing: typing.Collection[str], others: typing.Collection[str], steps: typing.Collection[str] = ()
-    ) -> list[str]:
+    def shared_by(self, failing: typing.Collection[str], others: typing.Collection[str],
+                  steps: typing.Collection[str] = ()) -> list[str]:
         """A property that all failing cases have and fewer others than fail, in words, if there is one."""
         bad, good = (sum(self.places[name] for name in set(names)) for names in (failing, others))
         found = [(count(it.cases & good), cost(it.words, steps), it.words) for it in self.properties

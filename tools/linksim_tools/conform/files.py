@@ -13,7 +13,7 @@ from linksim_tools.common.program import Failed, name_of
 from linksim_tools.conform import bits as lists
 from linksim_tools.conform import code
 from linksim_tools.conform.case import Tables
-from linksim_tools.conform.packing import PACKINGS
+from linksim_tools.conform.bits import PACKINGS
 
 FORMAT = 1
 # What suites are for, by the name of their format, and the words that write them.

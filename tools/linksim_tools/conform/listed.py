@@ -43,9 +43,8 @@ class Catalogue:
         self.steps, self.right = list(steps), right
         self.there: dict[str, Mistake] = {}
 
-    def mistake(
-        self, step: str, name: str, clause: str, wrong: str, change: str, also: tuple[str, ...] = (), **methods: Method
-    ) -> None:
+    def mistake(self, step: str, name: str, clause: str, wrong: str, change: str, also: tuple[str, ...] = (),
+                **methods: Method) -> None:
         """Lists a mistake by the one method that it replaces."""
         assert name not in self.there, name
         (hook, method), = methods.items()

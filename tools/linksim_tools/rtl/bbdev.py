@@ -5,7 +5,7 @@ from __future__ import annotations
 import json
 import typing
 
-from linksim_tools.conform.packing import little_endian_words
+from linksim_tools.conform.bits import little_endian_words
 from linksim_tools.rtl.folder import Folder
 
 if typing.TYPE_CHECKING:

@@ -8,7 +8,7 @@ import sys
 from linksim_tools.common import near
 from linksim_tools.common.command_line import Commands, add_out, hint, numbers, write
 from linksim_tools.common.program import Failed, name_of
-from linksim_tools.conform.packing import PACKINGS
+from linksim_tools.conform.bits import PACKINGS
 from linksim_tools.rtl import arrays, beats, vectors
 
 ABOUT = """Test vectors: a transport block, its code blocks, their codewords, and the bits that a transmission sends.

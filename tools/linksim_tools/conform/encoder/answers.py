@@ -92,8 +92,8 @@ def from_blocks(blocks: list[Object]) -> Object:
 
 
 READ: dict[str, typing.Callable[[str, typing.Any], typing.Any]] = {
-    "attached": bits, "sent": bits, "plan": lambda name, value: plan_of(value), "E": numbers_of_blocks,
-    "k0": one_for_all, "Ncb": one_for_all, **dict.fromkeys(LISTS, bits_of_blocks),
+    "attached": bits, "sent": bits, "plan": lambda name, value: plan_of(value), "E": numbers_of_blocks, "k0": one_for_all,
+    "Ncb": one_for_all, **dict.fromkeys(LISTS, bits_of_blocks)
 }
 
 

@@ -7,8 +7,7 @@ import typing
 
 from linksim_tools.common.command_line import add_out, hint
 from linksim_tools.common.message import shown
-from linksim_tools.conform import record as recording
-from linksim_tools.conform.commands import Words, chosen, command_of, reported, written
+from linksim_tools.conform.commands import Words, chosen, command_of, reported, save, written
 from linksim_tools.conform.encoder import alike, design, plain, points
 from linksim_tools.conform.encoder import again as asking
 from linksim_tools.conform.encoder import answers as answering
@@ -17,7 +16,8 @@ from linksim_tools.conform.encoder import report as reporting
 from linksim_tools.conform.encoder import run as running
 from linksim_tools.conform.encoder import show as showing
 from linksim_tools.conform.encoder import suite as suites
-from linksim_tools.conform.packing import PACKINGS
+from linksim_tools.conform.bits import PACKINGS
+from linksim_tools.conform.report import record_of
 from linksim_tools.conform.run import until_interrupted
 from linksim_tools.conform.steps import FIELDS
 from linksim_tools.rtl import beats, suite_files
@@ -66,16 +66,15 @@ def export(given: argparse.Namespace) -> None:
     suite_files.write(suites.read(given.suite), given.dir or given.out, bus, given.form)
 
 
-def judged(
-    given: argparse.Namespace, suite: suites.Suite, answers: dict[str, Answer], troubles: list[str], notes: list[str],
-    words: list[str],
-) -> int:
+def judged(given: argparse.Namespace, suite: suites.Suite, answers: dict[str, Answer], troubles: list[str], notes: list[str],
+           words: list[str]) -> int:
     """Writes the report of these answers, and says the status."""
     made = reporting.report(suite, answers, troubles, notes)
     made.lacking = [*reporting.required(suite, answers, given.require)]
-    made.record = recording.record_of(words, suite)
+    made.record = record_of(words, suite)
+    failing = sorted({name for step in made.steps.values() for name in step.failing}, key=list(suite.cases).index)
+    save(given.coverage, points.coverage([suite.cases[name] for name in suite.cases if name in made.names], failing))
     if getattr(given, "twice", False) and not running.Run.interrupted:
-        failing = sorted({name for step in made.steps.values() for name in step.failing}, key=list(suite.cases).index)
         with until_interrupted(made.troubles):
             made.twice = asking.again(form_of(given), suite, answers, failing)
     return reported(given, made, reporting.text(made), pages.lines(made))
@@ -134,10 +133,9 @@ def add_judges(words: Words) -> None:
     two.add_argument("--twice", action="store_true", help="asks failing cases again, alone and after themselves")
     two.add_argument("--pack", choices=PACKINGS, default="hex", help="how the block is written (hex)")
     for command in (one, two):
-        command.add_argument(
-            "--require", type=names_of, action="extend", default=[], metavar="NAME,..",
-            help="status 1 if a case lacks one of these names of an answer, as sent",
-        )
+        command.add_argument("--coverage", metavar="FILE", help="a file of the points that the answered cases cover, and of how many fail")
+        command.add_argument("--require", type=names_of, action="extend", default=[], metavar="NAME,..",
+                             help="status 1 if a case lacks one of these names of an answer, as sent")
 
 
 def options(with_kinds: bool) -> argparse.ArgumentParser:

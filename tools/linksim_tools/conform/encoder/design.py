@@ -44,23 +44,9 @@ class Designer:
             return "0" * pattern + "1" + "0" * (a - 1 - pattern)
         return f"{random.Random(f'{self.seed} {name}').getrandbits(a):0{a}b}"
 
-    def add(
-        self,
-        name: str,
-        a: int,
-        rate: int,
-        extent: str = "round",
-        pattern: int | str = "random",
-        limit: int | None = None,
-        over: int = 0,
-        *,
-        lbrm: int | None = None,
-        rv: int = 0,
-        g: int | None = None,
-        qm: int = 1,
-        nl: int = 1,
-        mask: str = "all",
-    ) -> None:
+    def add(self, name: str, a: int, rate: int, extent: str = "round", pattern: int | str = "random", limit: int | None = None,
+            over: int = 0, *, lbrm: int | None = None, rv: int = 0, g: int | None = None, qm: int = 1, nl: int = 1,
+            mask: str = "all") -> None:
         """A case. The limit is the wanted Ncb in hundredths of a codeword, and `lbrm` is a TBS_LBRM in bits. `over` are
         symbols that are not shared out evenly."""
         case = Case(name, self.block(name, a, pattern), rate, lbrm, rv, g or 1, qm, nl, mask)
@@ -75,13 +61,8 @@ class Designer:
     @staticmethod
     def total(facts: Facts, extent: str) -> int:
         """G: about so much for each scheduled code block as the extent says, in whole symbols of all layers."""
-        wanted = {
-            "short": facts.systematic * 2 // 3,
-            "fillers": facts.systematic + facts.z,
-            "end": facts.to_end,
-            "round": facts.one_round,
-            "twice": 2 * facts.one_round + facts.z, "rounds": 4 * facts.one_round + facts.z,
-        }[extent]
+        wanted = {"short": facts.systematic * 2 // 3, "fillers": facts.systematic + facts.z, "end": facts.to_end,
+                  "round": facts.one_round, "twice": 2 * facts.one_round + facts.z, "rounds": 4 * facts.one_round + facts.z}[extent]
         unit = facts.case.qm * facts.case.nl
         up = extent in ("fillers", "twice", "rounds")
         return max((wanted + (unit - 1) * up) // unit, 1) * unit * len(facts.scheduled)
@@ -237,10 +218,8 @@ def long_cases(design: Designer) -> None:
 
 def quick(design: Designer) -> None:
     """At most 190 cases."""
-    for part in (
-        crc_and_graph_cases, segmentation_cases, second_sides, patterns, buffer_cases, schedule_cases, whole_words, shared_out,
-        wide_limits,
-    ):
+    for part in (crc_and_graph_cases, segmentation_cases, second_sides, patterns, buffer_cases, schedule_cases, whole_words,
+                 shared_out, wide_limits):
         part(design)
     single_ones(design, lambda column: [column % 8])
     lifting_cases(design)

@@ -29,8 +29,7 @@ def of_step(search: Search, step: str, base: Mistakes, failing: list[str], left:
     more, all_named = of_step(search, step, named, rest, left - 1) if rest else ([], named)
     if more and (more[-1].fitting or more[-1].condition):
         return [first, *more], all_named
-    part = (first.fitting[0].mistakes, len(first.failing), first.out_of)
-    made = dataclasses.replace(first, failing=failing, fitting=[], out_of=0, nearest=part)
+    made = dataclasses.replace(first, failing=failing, fitting=[], out_of=0)
     search.tell(made, search.informative(failing, STEPS[step][1]), search.trials.passing(step, failing))
     return [made], base
 

@@ -109,10 +109,7 @@ class Difference:
         names = {"kdash": "K'", "kb": "Kb", "z": "Zc", "set": "the set index"}
         numbers = dataclasses.asdict(right)
         wrong = {name: it for name, it in found.items() if numbers[name] != it}
-        return [
-            f"{names.get(name, name.upper())} is {it}, right is {numbers[name]} (5.2.2, 5.3.2)"
-            for name, it in wrong.items()
-        ]
+        return [f"{names.get(name, name.upper())} is {it}, right is {numbers[name]} (5.2.2, 5.3.2)" for name, it in wrong.items()]
 
     def of_Ncb(self, found: int, right: int) -> list[str]:
         limit = "no limit" if self.case.lbrm is None else f"TBS_LBRM = {self.case.lbrm}"
@@ -127,11 +124,9 @@ class Difference:
             return [f"E of {len(found)} code blocks, right is C = {len(right)} (5.2.2)"]
         r = first_place(found, right)
         case = self.case
-        return [
-            f"E of code block r = {r} is {found[r]}, right is {right[r]} (5.4.2.1)",
-            f"G = {case.g}, NL = {case.nl}, Qm = {case.qm}, sent are {case.mask} of C = {self.plan.c} code blocks",
-            f"E given {listed(found)}, right {listed(right)}",
-        ]
+        return [f"E of code block r = {r} is {found[r]}, right is {right[r]} (5.4.2.1)",
+                f"G = {case.g}, NL = {case.nl}, Qm = {case.qm}, sent are {case.mask} of C = {self.plan.c} code blocks",
+                f"E given {listed(found)}, right {listed(right)}"]
 
     def bit(self, found: str, right: str, what: str) -> tuple[str, int | None]:
         """The line of a first differing bit, and its place, or None if one list ends there. A list that is too short or

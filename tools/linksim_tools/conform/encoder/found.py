@@ -34,8 +34,8 @@ class Found:
     If one mistake gives some of the failing cases and no other, `failing` has only these, of so many (`out_of`). The rest
     is found behind it. `fitting` has the mistakes of which each gives all failing cases. `apart` is the name of an answer
     that would tell them apart, or None if no case of the suite does. `alike` is whether the bits of all cases are the same,
-    and `alone` whether all later answers of the failing cases are right. If nothing fits, `nearest` is the mistake that gives
-    most of the smallest failing cases, and how many of how many. `condition` is what the failing cases have in common, and
+    and `alone` whether all later answers of the failing cases are right.
+    `condition` is what the failing cases have in common, and
     `told` has lines about numbers, bits and rows. `cut` says where the search was cut short."""
 
     step: str
@@ -45,7 +45,6 @@ class Found:
     apart: str | None = None
     alike: bool = False
     alone: bool = False
-    nearest: tuple[Mistakes, int, int] | None = None
     condition: Condition | None = None
     told: list[str] = dataclasses.field(default_factory=list)
     cut: str | None = None

@@ -228,28 +228,32 @@ class Trials:
 
     def failing(self, step: str, base: Mistakes) -> list[str]:
         """The cases that fail in a step."""
-        found = [name for name, trial in self.by_name.items() if trial.state(step, base) == "fail"]
+        found = [name for name, trial in self.by_name.items()
+                 if trial.state(step, base) == "fail" and not self.is_hidden(trial, step, base)]
         for name in found:
             self.by_name[name].forget()
         return found
 
     def passing(self, step: str, failing: typing.Collection[str]) -> list[str]:
-        """The other cases that were answered in a step."""
-        out = set(failing)
-        fields = STEPS[step][1]
-        return [
-            name for name, trial in self.by_name.items()
-            if name not in out and any(getattr(trial.answer, it) is not None for it in fields)
-        ]
+        """The other cases that were answered in a step, and judged."""
+        out, states = set(failing), self.states[step]
+        return [name for name in self.by_name if name not in out and states[name] not in ("none", "unjudged")]
+
+    def is_hidden(self, trial: Trial, step: str, base: Mistakes) -> bool:
+        """Whether an earlier step that a case does not answer fails in others by an unknown fault: this may be the same."""
+        fields = [field for field in STEPS[step][1] if getattr(trial.answer, field) is not None]
+        earlier = frozenset().union(*map(trial.span, fields)) - {step}
+        return any("fail" in self.states[it].values() and not any(it in known.steps for known in base) for it in earlier)
 
     @functools.cached_property
     def states(self) -> dict[str, dict[str, str]]:
         """By step and case how it does."""
-        found: dict[str, dict[str, str]] = {step: {} for step in STEPS}
-        for name in self.suite.cases:
-            trial = self.by_name.get(name)
-            for step in STEPS:
-                found[step][name] = trial.state(step) if trial else "none"
-            if trial:
-                trial.forget()
-        return found
+        self.states = {step: {name: "none" for name in self.suite.cases} for step in STEPS}
+        for name, trial in self.by_name.items():
+            for step, found in self.states.items():
+                found[name] = trial.state(step)
+            trial.forget()
+        for step, found in self.states.items():
+            found.update({name: "unjudged" for name, trial in self.by_name.items()
+                          if found[name] == "fail" and self.is_hidden(trial, step, NOTHING)})
+        return self.states

@@ -7,9 +7,7 @@ from linksim_tools.conform import bits as lists
 from linksim_tools.conform.case import Case, scheduled
 
 # The names of a line, in their order, with the smallest and the largest value of those that are numbers.
-NUMBERS = {
-    "rate2048": (1, 2048), "lbrm": (1, 2**32 - 1), "rv": (0, 3), "g": (1, 4_194_304), "qm": (1, 8), "nl": (1, 4)
-}
+NUMBERS = {"rate2048": (1, 2048), "lbrm": (1, 2**32 - 1), "rv": (0, 3), "g": (1, 4_194_304), "qm": (1, 8), "nl": (1, 4)}
 NAMES = ("id", *NUMBERS, "mask", "a")
 
 # How long an id may be, and a block in octets.
@@ -23,9 +21,7 @@ def line_of(case: Case, count: int) -> str:
         named = set(scheduled(case.mask, count))
         mask = "".join("1" if r in named else "0" for r in range(count))
     limit = "-" if case.lbrm is None else case.lbrm
-    words: dict[str, object] = {
-        "id": case.id, "rate2048": case.rate2048, "lbrm": limit, "rv": case.rv, "g": case.g, "qm": case.qm
-    }
+    words: dict[str, object] = {"id": case.id, "rate2048": case.rate2048, "lbrm": limit, "rv": case.rv, "g": case.g, "qm": case.qm}
     words.update({"nl": case.nl, "mask": mask, "a": lists.hexadecimal(case.a)})
     return " ".join(f"{name} {value}" for name, value in words.items())
 
@@ -67,7 +63,5 @@ def case_of(words: list[str]) -> Case:
         raise ValueError(f"id is longer than {MOST_LETTERS} letters, or has one that cannot be printed")
     limit = found.get("lbrm", "-")
     rest = {name: number_of(name, found[name]) for name in ("rv", "g", "qm", "nl") if name in found}
-    return Case(
-        found["id"], lists.of_digits(digits, 4 * len(digits)), number_of("rate2048", found["rate2048"]),
-        None if limit == "-" else number_of("lbrm", limit), mask=mask_of(found.get("mask", "all")), **rest,
-    )
+    return Case(found["id"], lists.of_digits(digits, 4 * len(digits)), number_of("rate2048", found["rate2048"]),
+                None if limit == "-" else number_of("lbrm", limit), mask=mask_of(found.get("mask", "all")), **rest)

@@ -11,8 +11,6 @@ from linksim_tools.conform.case import Case, Plan
 from linksim_tools.conform.chain import Chain
 from linksim_tools.conform.clauses import SETS, right
 from linksim_tools.conform.code import TablesKey
-from linksim_tools.conform.encoder.watched import mistakes_of
-
 
 # Sizes and code rates in 2048ths at both sides of the limits of 6.2.2.
 LIMITS = ((288, 2048), (296, 1372), (296, 1373), (3824, 1372), (3824, 1373), (3832, 512), (3832, 513), (3832, 1372))
@@ -106,13 +104,7 @@ class Point:
     long: bool = False
 
 
-def numbers(
-    clause: str,
-    name: str,
-    what: str,
-    values: tuple[int, ...],
-    read: typing.Callable[..., typing.Any],
-) -> list[Point]:
+def numbers(clause: str, name: str, what: str, values: tuple[int, ...], read: typing.Callable[..., typing.Any]) -> list[Point]:
     """A point for each value of a number."""
     def holds(value: int) -> typing.Callable[..., typing.Any]:
         return lambda facts: read(facts) == value
@@ -201,9 +193,8 @@ def lifting_points() -> typing.Iterator[Point]:
 
 # What a block can be: a name, words and the test.
 BLOCKS = (
-    ("zeros", "zeros", lambda it: it.ones == 0),
-    ("ones", "ones", lambda it: it.ones == it.a),
-    ("random", "random bits", lambda it: it.random),
+    ("zeros", "zeros", lambda it: it.ones == 0), ("ones", "ones", lambda it: it.ones == it.a),
+    ("random", "random bits", lambda it: it.random)
 )
 
 
@@ -242,14 +233,12 @@ def selection_points() -> typing.Iterator[Point]:
     for graph in GRAPHS:
         for version in range(4):
             text = f"base graph {graph}, rv = {version}"
-            yield Point(f"graph-{graph}-rv-{version}", "5.4.2.1", text,
-                        at(graph, lambda it, rv=version: it.case.rv == rv))
+            yield Point(f"graph-{graph}-rv-{version}", "5.4.2.1", text, at(graph, lambda it, rv=version: it.case.rv == rv))
             yield Point(f"graph-{graph}-limited-rv-{version}", "5.4.2.1", f"{text} in a limited buffer",
                         at(graph, lambda it, rv=version: it.case.rv == rv and it.ncb < it.plan.n))
         for name, text, test in SELECTIONS:
             yield Point(f"graph-{graph}-{name}", "5.4.2.1", f"base graph {graph}, {text}", at(graph, test))
-    yield Point("limit-wide", "5.4.2.1", "3 TBS_LBRM takes more than 32 bits",
-                lambda it: 3 * (it.case.lbrm or 0) >> 32 > 0)
+    yield Point("limit-wide", "5.4.2.1", "3 TBS_LBRM takes more than 32 bits", lambda it: 3 * (it.case.lbrm or 0) >> 32 > 0)
     yield Point("limit-floor", "5.4.2.1", "TBS_LBRM / C rounded down before 2/3 gives another Ncb",
                 lambda it: it.ncb < it.plan.n and 3 * ((it.case.lbrm or 0) // it.c) // 2 != it.ncb)
 
@@ -258,8 +247,7 @@ def length_points() -> typing.Iterator[Point]:
     """How G is shared out, layers and symbols, and which code blocks are sent."""
     yield Point("shares-equal", "5.4.2.1", "E_r shared out evenly", lambda it: len(it.shares) > 1 and not it.unequal)
     yield Point("shares-unequal", "5.4.2.1", "E_r not shared out evenly", lambda it: it.unequal)
-    yield Point("shares-layers", "5.4.2.1", "E_r not shared out evenly, NL > 1",
-                lambda it: it.unequal and it.case.nl > 1)
+    yield Point("shares-layers", "5.4.2.1", "E_r not shared out evenly, NL > 1", lambda it: it.unequal and it.case.nl > 1)
     yield Point("shares-zero", "5.4.2.1", "E_r = 0 of a scheduled code block", lambda it: 0 in it.shares)
     yield from numbers("5.4.2.1", "layers", "NL", (1, 2, 3, 4), lambda it: it.case.nl)
     yield from numbers("5.4.2.2", "symbol", "Qm", (1, 2, 4, 6, 8), lambda it: it.case.qm)
@@ -273,9 +261,7 @@ def length_points() -> typing.Iterator[Point]:
     yield Point("joined", "5.5", "several code blocks joined", lambda it: sum(share > 0 for share in it.shares) > 1)
 
 
-PARTS = [
-    crc_points, graph_points, segmentation_points, lifting_points, encoding_points, selection_points, length_points
-]
+PARTS = [crc_points, graph_points, segmentation_points, lifting_points, encoding_points, selection_points, length_points]
 POINTS = {point.name: point for part in PARTS for point in part()}
 
 
@@ -285,9 +271,21 @@ def covered(case: Case) -> list[str]:
     return [point.name for point in POINTS.values() if point.holds(facts)]
 
 
+def coverage(cases: typing.Sequence[Case], failing: typing.Container[str]) -> typing.Iterator[str]:
+    """A table of the points: how many of these cases cover each, and how many of these fail. Those that none covers are last."""
+    names: dict[str, list[str]] = {name: [] for name in POINTS}
+    for case in cases:
+        for name in covered(case):
+            names[name].append(case.id)
+    there = sum(map(bool, names.values()))
+    yield f"{there} of {len(POINTS)} points are covered by {len(cases)} cases"
+    for name, those in sorted(names.items(), key=lambda it: not it[1]):
+        bad = sum(it in failing for it in those)
+        yield f"{name:{max(map(len, POINTS))}} {len(those):5} {bad:5} {POINTS[name].clause:8} {POINTS[name].text}"
+
+
 def lines(profiles: dict[str, list[Case]]) -> typing.Iterator[str]:
-    """A table of the points: each with the number of cases of each profile that cover it, and the mistakes that it is
-    there for."""
+    """A table of the points: each with the number of cases of each profile that cover it."""
     counts = {profile: dict.fromkeys(POINTS, 0) for profile in profiles}
     for profile, cases in profiles.items():
         for case in cases:
@@ -297,6 +295,4 @@ def lines(profiles: dict[str, list[Case]]) -> typing.Iterator[str]:
     yield " ".join([f"{'point':{width}}", *(f"{profile:>5}" for profile in profiles), "clause   what it is"])
     for name, point in POINTS.items():
         numbers_of = [f"{counts[it][name]:5}" for it in profiles]
-        mistakes = mistakes_of(name)
-        shown = f" ({', '.join(mistakes)})" if mistakes else ""
-        yield " ".join([f"{name:{width}}", *numbers_of, f"{point.clause:8}", point.text + shown])
+        yield " ".join([f"{name:{width}}", *numbers_of, f"{point.clause:8}", point.text])

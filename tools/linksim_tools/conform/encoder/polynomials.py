@@ -30,15 +30,11 @@ def as_it_is(bits: str) -> str:
 
 
 # Orders of the bits that a register takes, and of the parity bits, each with words.
-INPUTS: dict[str, lists.Order] = {
-    "": as_it_is, "the bits of each octet go in lowest first": lists.each_octet_reversed,
-    "the bits go in backwards": lists.backwards,
-}
-OUTPUTS: dict[str, lists.Order] = {
-    "": as_it_is, "the parity bits are sent lowest first": lists.backwards,
-    "the octets of the parity bits are sent lowest first": lists.octets_backwards,
-    "the parity bits of each octet are sent lowest first": lists.each_octet_reversed,
-}
+INPUTS: dict[str, lists.Order] = {"": as_it_is, "the bits of each octet go in lowest first": lists.each_octet_reversed,
+                                  "the bits go in backwards": lists.backwards}
+OUTPUTS: dict[str, lists.Order] = {"": as_it_is, "the parity bits are sent lowest first": lists.backwards,
+                                   "the octets of the parity bits are sent lowest first": lists.octets_backwards,
+                                   "the parity bits of each octet are sent lowest first": lists.each_octet_reversed}
 
 
 def modulo(one: int, other: int) -> int:

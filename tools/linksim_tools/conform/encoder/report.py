@@ -49,7 +49,7 @@ class Report(shared.Report):
             **super().as_object(), "twice": self.twice, "lacking": self.lacking,
             "first": dataclasses.asdict(self.firsts[0]) if self.firsts else None,
             "firsts": [dataclasses.asdict(it) for it in self.firsts],
-            "diagnosis": [finding(self.suite, it) for it in self.diagnosis],
+            "diagnosis": [finding(self.suite, it) for it in self.diagnosis]
         }
 
 
@@ -63,22 +63,16 @@ def finding(suite: Suite, found: Found) -> Object:
     """What was found in a step, as JSON has it."""
     smallest = suite.cases[found.failing[0]]
     first = found.fitting[0] if found.fitting else None
-    nearest = None
-    if found.nearest:
-        wrong, count, cases = found.nearest
-        nearest = {"mistakes": objects_of(wrong), "gives": count, "of": cases}
     condition = first.condition if first else found.condition
-    return {
-        "step": found.step, "behind": found.behind, "failing": len(found.failing),
-        "mistakes": [objects_of(it.mistakes) for it in found.fitting],
-        "gives_other_cases": found.is_sure, "case_not_given": first.broken[0] if first and first.broken else None,
-        "not_given": [len(it.broken) for it in found.fitting],
-        "conditions": [dataclasses.asdict(it.condition) if it.condition else None for it in found.fitting],
-        "condition": {**dataclasses.asdict(condition), "exact": True} if condition else None, "told": found.told,
-        "told_apart_by": found.apart, "same_bits": found.alike, "later_steps_right": found.alone, "nearest": nearest,
-        "cut": found.cut, "out_of": found.out_of or None, "smallest": {"id": smallest.id, "case": about(smallest)},
-        "show": f"{name_of('conform')} show {suite.path} {smallest.id}",
-    }
+    return {"step": found.step, "behind": found.behind, "failing": len(found.failing),
+            "mistakes": [objects_of(it.mistakes) for it in found.fitting], "gives_other_cases": found.is_sure,
+            "case_not_given": first.broken[0] if first and first.broken else None,
+            "not_given": [len(it.broken) for it in found.fitting],
+            "conditions": [dataclasses.asdict(it.condition) if it.condition else None for it in found.fitting],
+            "condition": {**dataclasses.asdict(condition), "exact": True} if condition else None, "told": found.told,
+            "told_apart_by": found.apart, "same_bits": found.alike, "later_steps_right": found.alone, "cut": found.cut,
+            "out_of": found.out_of or None, "smallest": {"id": smallest.id, "case": about(smallest)},
+            "show": f"{name_of('conform')} show {suite.path} {smallest.id}"}
 
 
 def steps_of(suite: Suite, states: dict[str, dict[str, str]]) -> dict[str, shared.Step]:
@@ -121,14 +115,13 @@ def notes_of(trials: Trials, steps: dict[str, shared.Step]) -> list[str]:
         notes.append(f"code block CRC of {counted(len(trials.from_d), 'case')} is judged from d")
     for step in steps.values():
         if step.unjudged:
-            said = "what was answered before cannot be its input"
+            said = "what was answered before cannot be its input, or what was not fails in other cases"
             notes.append(f"{step.name} of {step.unjudged} cases is not judged: {said}")
     return notes
 
 
-def judged(
-    suite: Suite, answers: dict[str, Answer], troubles: typing.Sequence[str] = (), notes: typing.Sequence[str] = ()
-) -> tuple[Report, Trials]:
+def judged(suite: Suite, answers: dict[str, Answer], troubles: typing.Sequence[str] = (),
+           notes: typing.Sequence[str] = ()) -> tuple[Report, Trials]:
     """The report without a diagnosis. `troubles` are lines about answers that could not be judged."""
     trials = Trials(suite, answers)
     steps = steps_of(suite, trials.states)
@@ -165,9 +158,8 @@ def blocks_of(step: str, failing: list[Trial]) -> list[str]:
     return []
 
 
-def report(
-    suite: Suite, answers: dict[str, Answer], troubles: typing.Sequence[str] = (), notes: typing.Sequence[str] = ()
-) -> Report:
+def report(suite: Suite, answers: dict[str, Answer], troubles: typing.Sequence[str] = (),
+           notes: typing.Sequence[str] = ()) -> Report:
     """The whole report."""
     made, trials = judged(suite, answers, troubles, notes)
     if made.firsts:

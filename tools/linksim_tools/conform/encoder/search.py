@@ -1,5 +1,5 @@
 """The search for the mistake that gives the answers of a step. It is a known one, a pair of them, an entry of the table, a
-generator polynomial, another beginning k0, or one of a kind. A known one may also be made under a condition."""
+generator polynomial, or one of a kind. A known one may also be made under a condition."""
 
 from __future__ import annotations
 
@@ -8,13 +8,12 @@ import itertools
 import typing
 
 from linksim_tools.conform.clauses import Impossible
-from linksim_tools.conform.encoder import entries, places, polynomials, starts
+from linksim_tools.conform.encoder import entries, families, places, polynomials
 from linksim_tools.conform.conditions import Common
-from linksim_tools.conform.encoder.families import every
 from linksim_tools.conform.encoder.found import Fitting, Found
 from linksim_tools.conform.encoder.points import Facts
 from linksim_tools.conform.encoder.told import lines as telling_lines
-from linksim_tools.conform.encoder.judging import NOTHING, Mistakes, Trial, Trials, length_of
+from linksim_tools.conform.encoder.judging import Mistakes, Trial, Trials, length_of
 from linksim_tools.conform.encoder.mistakes import MISTAKES
 from linksim_tools.conform.steps import BITS, FIELDS, STEPS
 
@@ -22,8 +21,7 @@ if typing.TYPE_CHECKING:
     from linksim_tools.conform.encoder.suite import Suite
     from linksim_tools.conform.listed import Mistake
 
-# In how many failing cases the nearest mistake is looked for. The last number is
-# how many bits of a case are enough for this search.
+# How many failing cases are told of, and how many bits of a case are enough for a search.
 NEAR, INFORMATIVE = 24, 48
 
 # How many characters are made in a search at most: for single mistakes, and for pairs of them.
@@ -53,9 +51,8 @@ class Search:
             for name in self.by_name}, places)
         self.work = 0
 
-    def left(
-        self, candidates: list[Mistakes], names: typing.Iterable[str], fields: tuple[str, ...], most: int = WORK
-    ) -> list[Mistakes]:
+    def left(self, candidates: list[Mistakes], names: typing.Iterable[str], fields: tuple[str, ...],
+             most: int = WORK) -> list[Mistakes]:
         """The candidates that give all these cases."""
         self.work = 0
         for name in names:
@@ -104,8 +101,6 @@ class Search:
                 self.take_part(made, base, candidates, ordered, passing)
         if not made.fitting:
             self.tell(made, ordered, passing)
-            with self.within(made):
-                made.nearest = self.nearest(base, singles, ordered[:NEAR], fields)
         elif len(made.fitting) > 1:
             self.tell_apart(made, base)
         made.alone = self.later_are_right(step, failing)
@@ -120,9 +115,7 @@ class Search:
         except CutShort:
             made.cut = "the search was cut short: the cases that fail are too long for it"
 
-    def fit(
-        self, made: Found, base: Mistakes, singles: list[Mistakes], failing: list[str], passing: list[str]
-    ) -> list[Mistakes]:
+    def fit(self, made: Found, base: Mistakes, singles: list[Mistakes], failing: list[str], passing: list[str]) -> list[Mistakes]:
         """Finds the mistakes that give all failing cases, and gives all that were tried one by one."""
         fields = STEPS[made.step][1]
         fitting = self.left(singles, failing, fields)
@@ -155,9 +148,9 @@ class Search:
         return kept
 
     def special(self, step: str, base: Mistakes, failing: list[str], passing: list[str]) -> list[Mistakes]:
-        """Mistakes that no list has: of the table, of a generator polynomial, and of where k0 begins."""
+        """Mistakes that no list has: of the table, and of a generator polynomial."""
         trials = [self.by_name[it] for it in failing]
-        for made in (entries.found, polynomials.found, starts.found):
+        for made in (entries.found, polynomials.found):
             for mistake in made(step, trials, [self.by_name[it] for it in passing]):
                 wrong = base | {mistake}
                 fields = STEPS[step][1]
@@ -168,13 +161,11 @@ class Search:
     def of_families(self, base: Mistakes, failing: list[str], fields: tuple[str, ...]) -> list[Mistakes]:
         """Mistakes that no list has, by their kind, that change something in the first failing case."""
         spans = self.spans(failing, fields)
-        named = every.mistakes(self.suite, list(self.by_name.values()))
+        named = families.mistakes(self.suite, list(self.by_name.values()))
         trial = self.by_name[failing[0]]
         return [base | {it} for it in named if not spans.isdisjoint(it.steps) and self.moves(trial, it, base)]
 
-    def take_part(
-        self, made: Found, base: Mistakes, candidates: list[Mistakes], failing: list[str], passing: list[str]
-    ) -> None:
+    def take_part(self, made: Found, base: Mistakes, candidates: list[Mistakes], failing: list[str], passing: list[str]) -> None:
         """Takes a mistake that gives some of the failing cases and all that pass: the others have one more."""
         fields = STEPS[made.step][1]
         for start in failing[:STARTS]:
@@ -198,9 +189,7 @@ class Search:
         """The steps in which a mistake can show under some names of these cases."""
         return frozenset().union(*(self.by_name[it].span(field) for it in names for field in fields))
 
-    def pairs(
-        self, base: Mistakes, singles: list[Mistakes], names: list[str], fields: tuple[str, ...]
-    ) -> list[Mistakes]:
+    def pairs(self, base: Mistakes, singles: list[Mistakes], names: list[str], fields: tuple[str, ...]) -> list[Mistakes]:
         """The pairs of candidates that give the first of these cases."""
         self.work = 0
         trial = self.by_name[names[0]]
@@ -241,22 +230,6 @@ class Search:
             for it in passing:
                 self.by_name[it].forget()
         return sorted(found, key=lambda it: (it.condition is None, len(it.broken), len(it.mistakes)))
-
-    def nearest(
-        self, base: Mistakes, candidates: list[Mistakes], names: list[str], fields: tuple[str, ...]
-    ) -> tuple[Mistakes, int, int] | None:
-        """The candidate that gives most of these cases, with their numbers; None if none gives half of them."""
-        names = [it for it in names if fields[0] not in BITS or length_of(getattr(
-            self.by_name[it].right, fields[0])) >= INFORMATIVE]
-        counts = dict.fromkeys(candidates, 0)
-        for name in names:
-            trial = self.by_name[name]
-            for wrong in candidates:
-                counts[wrong] += self.gives(trial, fields, wrong)
-            trial.forget()
-        best = max(candidates, key=lambda wrong: counts[wrong], default=NOTHING)
-        count = counts.get(best, 0)
-        return (best - base, count, len(names)) if count and 2 * count >= len(names) else None
 
     def tell_apart(self, made: Found, base: Mistakes) -> None:
         """Says which further name of an answer would tell several apart."""

@@ -10,21 +10,18 @@ from linksim_tools.conform.clauses import Impossible
 from linksim_tools.conform.encoder import former, shifted
 from linksim_tools.conform.encoder.judging import NOTHING, Made
 from linksim_tools.conform.encoder.observed import selected_bits
-from linksim_tools.conform.steps import STEPS
 
 if typing.TYPE_CHECKING:
     from linksim_tools.conform.encoder.judging import Trial, Trials
 
-# How many numbers are told that stand for others, and in how many of a hundred cases a shift must be the same.
-NUMBERS, MOST = 4, 50
-
-# The least number of bits of a word of which several may be missing.
-LEAST_WORD = 16
-
-NAMES = {
-    "b": "B", "graph": "the base graph", "c": "C", "l": "L", "kdash": "K'", "kb": "Kb", "z": "Zc",
-    "set": "the set index", "k": "K", "n": "N",
-}
+# How many numbers are told that stand for others, in how many of a hundred cases a shift must be the same, and the least number of
+# bits of a word of which several may be missing.
+NUMBERS, MOST, LEAST_WORD = 4, 50, 16
+NAMES = {"b": "B", "graph": "the base graph", "c": "C", "l": "L", "kdash": "K'", "kb": "Kb", "z": "Zc", "set": "the set index",
+         "k": "K", "n": "N"}
+# The lists of bits that each step answers, by their names.
+LISTS = {"crc": ("attached", "the block with its CRC"), "codecrc": ("bits", "the bits"), "ldpc": ("d", "d"),
+         "selection": ("e", "e"), "interleaving": ("f", "f"), "concatenation": ("sent", "the bits sent")}
 
 
 def exchanged(name: str, pairs: typing.Iterable[tuple[int, int]]) -> list[str]:
@@ -32,41 +29,31 @@ def exchanged(name: str, pairs: typing.Iterable[tuple[int, int]]) -> list[str]:
     found = sorted(set(pairs))
     if not found or len(found) > NUMBERS or len({right for right, _ in found}) < len(found):
         return []
-    first, *rest = (f"{answered} in place of {right}" for right, answered in found)
-    return [f"{name} is {first}" + "".join(f", {it}" for it in rest)]
+    return [f"{name} is " + ", ".join(f"{answered} in place of {right}" for right, answered in found)]
 
 
 def of_graph(trials: list[Trial]) -> list[str]:
     """The base graph."""
-    return exchanged("the base graph", [
-        (trial.made("graph", NOTHING), trial.answer.graph) for trial in trials if trial.answer.graph is not None
-    ])
+    there = [trial for trial in trials if trial.answer.graph is not None]
+    return exchanged(NAMES["graph"], [(trial.made("graph", NOTHING), trial.answer.graph or 0) for trial in there])
 
 
 def of_plan(trials: list[Trial]) -> list[str]:
     """The first number of the plan that differs."""
     for name, words in NAMES.items():
-        pairs = []
-        for trial in trials:
-            right = trial.made("plan", NOTHING)
-            answered = (trial.answer.plan or {}).get(name)
-            if answered is not None and answered != getattr(right, name):
-                pairs.append((getattr(right, name), answered))
-        if pairs:
-            return exchanged(words, pairs)
+        pairs = [(getattr(trial.made("plan", NOTHING), name), (trial.answer.plan or {}).get(name)) for trial in trials]
+        differing = [(right, answered) for right, answered in pairs if answered is not None and answered != right]
+        if differing:
+            return exchanged(words, differing)
     return []
 
 
 def of_k0(trials: list[Trial]) -> list[str]:
     """k0 in columns, if it is whole columns."""
-    pairs = []
-    for trial in trials:
-        right, z = trial.made("k0", NOTHING), trial.right.plan.z
-        if trial.answer.k0 is None or trial.answer.k0 % z or right % z:
-            return []
-        if trial.answer.k0 != right:
-            pairs.append((right // z, trial.answer.k0 // z))
-    return exchanged("k0 / Zc", pairs)
+    found = [(trial.made("k0", NOTHING), trial.answer.k0, trial.right.plan.z) for trial in trials]
+    if any(answered is None or answered % z or right % z for right, answered, z in found):
+        return []
+    return exchanged("k0 / Zc", [(right // z, (answered or 0) // z) for right, answered, z in found if answered != right])
 
 
 def of_lengths(trials: list[Trial]) -> list[str]:
@@ -74,33 +61,21 @@ def of_lengths(trials: list[Trial]) -> list[str]:
     pairs = [(trial.answer.E or [], trial.made("E", NOTHING)) for trial in trials]
     if all(answered == right[::-1] for answered, right in pairs):
         return ["E of the code blocks stands in reverse"]
-    if all(sorted(answered) == sorted(right) for answered, right in pairs):
-        return ["E has the right numbers, at other code blocks"]
-    return []
+    is_moved = all(sorted(answered) == sorted(right) for answered, right in pairs)
+    return ["E has the right numbers, at other code blocks"] if is_moved else []
+
+
+def parts_of(value: typing.Any) -> list[str]:
+    """What is answered by code block, or a list that all have together."""
+    return [value] if isinstance(value, str) else list(value or [])
 
 
 def lists_of(step: str, trial: Trial) -> list[tuple[str, list[str], list[str]]]:
     """Lists of bits of a trial as they were answered and as they are right, each with its name."""
-    found, answer = [], trial.answer
-    if step == "crc":
-        found.append(("the block with its CRC", [answer.attached or ""], [trial.made("attached", NOTHING)]))
-    if step == "concatenation":
-        found.append(("the bits sent", [answer.sent or ""], [trial.made("sent", NOTHING)]))
-    for field, name in (("e", "e"), ("f", "f"), ("d", "d"), ("bits", "the bits")):
-        if {"selection": "e", "interleaving": "f", "ldpc": "d", "codecrc": "bits"}.get(step) == field:
-            found.append((name, getattr(answer, field), trial.made(field, NOTHING)))
-    if step in ("interleaving", "concatenation"):
-        e = selected_bits(step, trial, Made(trial, NOTHING))
-        if e:
-            found.append(("e", e, trial.made("e", NOTHING)))
-    return found
-
-
-def parts_of(step: str, trial: Trial | None) -> list[str]:
-    """What was answered of a step by code block, or of all that is sent."""
-    answer = trial.answer if trial else None
-    found = getattr(answer, STEPS[step][1][-1]) if answer else None
-    return [found] if isinstance(found, str) else list(found or [])
+    field, name = LISTS[step]
+    found = [(name, parts_of(getattr(trial.answer, field)), parts_of(trial.made(field, NOTHING)))]
+    e = selected_bits(step, trial, Made(trial, NOTHING)) if step in ("interleaving", "concatenation") else None
+    return [*found, ("e", e, trial.made("e", NOTHING))] if e else found
 
 
 def of_bits(step: str, trial: Trial, old: list[str]) -> typing.Iterator[tuple[str, shifted.Shift | str | None]]:
@@ -108,30 +83,27 @@ def of_bits(step: str, trial: Trial, old: list[str]) -> typing.Iterator[tuple[st
     before."""
     for name, answered, right in lists_of(step, trial):
         moved = former.order(answered, right) if len(right) > 1 else ""
+        r = next((r for r, (one, two) in enumerate(zip(answered, right)) if one != two), None)
         if moved:
             yield f"{name}: the parts of code blocks stand in another order", moved
+        if moved or r is None:
             continue
         others = [(f"code block {r}", it) for r, it in enumerate(right)] if len(right) > 1 else []
-        r = next((r for r, (one, two) in enumerate(zip(answered, right)) if one != two), None)
-        if r is None:
-            continue
         shift = None if shifted.is_flipped(answered[r], right[r]) else shifted.shift_of(answered[r], right[r])
         before = [("the case before", (old[r : r + 1] or [""])[0])] + [("the code block before", answered[r - 1])] * (r > 0)
         words = former.words_of(before, answered[r], right[r])
-        if words:
-            yield f"{name}: {words}", None
-        elif shift:
+        if shift and not words:
             yield f"{name} {shift.missing}", shift
-        elif shifted.other_words(answered[r], right[r], others):
-            yield f"{name}: {shifted.other_words(answered[r], right[r], others)}", None
+        elif words or shifted.other_words(answered[r], right[r], others):
+            yield f"{name}: {words or shifted.other_words(answered[r], right[r], others)}", None
 
 
 def of_shifts(step: str, trials: list[Trial], all_trials: Trials) -> list[str]:
     """What most cases have of shifted or former bits."""
     found: dict[str, list[shifted.Shift | str | None]] = {}
     for trial in trials:
-        old = parts_of(step, former.before(all_trials, trial))
-        for words, moved in of_bits(step, trial, old):
+        before = former.before(all_trials, trial)
+        for words, moved in of_bits(step, trial, parts_of(getattr(before.answer, LISTS[step][0])) if before else []):
             found.setdefault(words, []).append(moved)
         trial.forget()
     if not found:
@@ -143,20 +115,22 @@ def of_shifts(step: str, trials: list[Trial], all_trials: Trials) -> list[str]:
     if isinstance(shifts[0], str):
         words += f", in the smallest case {shifts[0]}"
     if there:
-        name = words.rpartition(" ")[0]
-        words = f"{name}: " + there[0].words(max(it.first for it in there), min(it.last for it in there))
+        words = words.rpartition(" ")[0] + ": " + there[0].words(max(it.first for it in there), min(it.last for it in there))
     return [f"{words} (in {len(shifts)} of {len(trials)} that fail)"]
+
+
+def differing(step: str, trials: list[Trial]) -> typing.Iterator[tuple[Trial, str, str]]:
+    """Each list of bits of a step that differs, as it was answered and as it is right, with its trial."""
+    for trial in trials:
+        _, answered, right = lists_of(step, trial)[0]
+        yield from ((trial, one, two) for one, two in zip(answered, right) if one != two)
+        trial.forget()
 
 
 def of_sequence(step: str, trials: list[Trial]) -> list[str]:
     """A line if one sequence is added to the right bits in all cases."""
-    added: list[str] = []
-    for trial in trials:
-        for _, answered, right in lists_of(step, trial)[:1]:
-            for one, two in zip(answered, right):
-                if len(one) == len(two) and "-" not in one + two and one != two:
-                    added.append(f"{int(one, 2) ^ int(two, 2):0{len(two)}b}")
-        trial.forget()
+    added = [f"{int(one, 2) ^ int(two, 2):0{len(two)}b}" for _, one, two in differing(step, trials)
+             if len(one) == len(two) and "-" not in one + two]
     longest = max(added, key=len, default="")
     if len(added) < 3 or longest.count("1") < 2 or not all(longest.startswith(it) for it in added):
         return []
@@ -183,24 +157,18 @@ def of_parity(step: str, trials: list[Trial]) -> list[str]:
 
 def of_counts(step: str, trials: list[Trial]) -> list[str]:
     """A line if the number of bits that are missing or too many is a number of the case modulo a word."""
-    counts = []
-    for trial in trials:
-        for _, answered, right in lists_of(step, trial)[:1]:
-            by = [len(two) - len(one) for one, two in zip(answered, right)]
-            counts += [(trial.right.plan, trial.case.g, it) for it in by if it]
-        trial.forget()
+    found = differing(step, trials)
+    counts = [(trial.right.plan, trial.case.g, len(two) - len(one)) for trial, one, two in found if len(one) != len(two)]
     if len(counts) < 3:
         return []
+    kind = "missing" if counts[0][2] > 0 else "too many"
     if len({it for *_, it in counts}) == 1:
-        missing = counts[0][2]
-        return [f"{shifted.count(abs(missing))} {'missing' if missing > 0 else 'too many'} in each list that differs"]
+        return [f"{shifted.count(abs(counts[0][2]))} {kind} in each list that differs"]
     for width in (8, 16, 32, 64):
-        reads: dict[str, typing.Callable[[typing.Any, int], typing.Any]]
-        reads = {"B": lambda plan, _: plan.b, "K'": lambda plan, _: plan.kdash, "G": lambda _, g: g}
-        for name, read in reads.items():
-            for kind, sign in (("missing", 1), ("too many", -1)):
-                if all(it == sign * (read(plan, g) % width) for plan, g, it in counts):
-                    return [f"mod({name}, {width}) bits are {kind} in each list that differs"]
+        for name, numbers in (("B", [plan.b for plan, *_ in counts]), ("K'", [plan.kdash for plan, *_ in counts]),
+                              ("G", [g for _, g, _ in counts])):
+            if all(abs(by) == it % width and by * counts[0][2] > 0 for it, (_, _, by) in zip(numbers, counts)):
+                return [f"mod({name}, {width}) bits are {kind} in each list that differs"]
     return []
 
 

@@ -50,10 +50,6 @@ def none_lines(suite: Suite, found: Found) -> typing.Iterator[str]:
     smallest = suite.cases[found.failing[0]]
     yield f"  the smallest case that fails: {smallest.id}: {about(smallest)}"
     yield f"  its vector: {name_of('conform')} show {suite.path} {smallest.id}"
-    if found.nearest:
-        wrong, count, cases = found.nearest
-        names = " and ".join(f"{it.name} ({it.wrong})" for it in sorted(wrong, key=lambda it: it.name))
-        yield f"  nearest: {names} gives {count} of the {cases} smallest that fail"
 
 
 def head_lines(suite: Suite, found: Found) -> typing.Iterator[str]:

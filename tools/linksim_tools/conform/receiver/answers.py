@@ -71,12 +71,9 @@ def from_object(value: Object) -> Answer:
         return UNSUPPORTED
     if "delivered" not in value:
         raise Wrong("delivered is not answered")
-    return Answer(
-        block_of(value["delivered"]),
-        None if value.get("passed") is None else passed_of(value["passed"]),
-        None if value.get("info") is None else texts_of("info", value["info"], "01?"),
-        None if value.get("soft") is None else texts_of("soft", value["soft"], "0+-"),
-    )
+    return Answer(block_of(value["delivered"]), None if value.get("passed") is None else passed_of(value["passed"]),
+                  None if value.get("info") is None else texts_of("info", value["info"], "01?"),
+                  None if value.get("soft") is None else texts_of("soft", value["soft"], "0+-"))
 
 
 def from_words(words: list[str]) -> Object:
@@ -103,9 +100,7 @@ def place_of(name: str, tx: typing.Any, suite: Suite, there: Answers) -> tuple[s
     return name, tx
 
 
-def take(
-    line: bytes, plain: bool, suite: Suite, there: Answers, wanted: tuple[str, int] | None = None
-) -> None:
+def take(line: bytes, plain: bool, suite: Suite, there: Answers, wanted: tuple[str, int] | None = None) -> None:
     """Takes a line as an answer; the transmission `wanted` was asked for."""
     name, value = object_of(line, from_words if plain else None)
     name, tx = place_of(name, value.get("tx"), suite, there)

@@ -282,12 +282,8 @@ class Receiver:
         good = self.good(sizes, passed, process.lengths, self.fits_block(sizes, a, rest, texts))
         process.delivered = self.answered(process, a if good else None)
         soft = process.soft or [empty(sizes.size)] * sizes.c
-        return Answer(
-            process.delivered,
-            "".join("1" if it else "0" for it in passed),
-            tuple(it.info for it in decoded),
-            tuple(self.shown(sizes, it) for it in soft),
-        )
+        return Answer(process.delivered, "".join("1" if it else "0" for it in passed), tuple(it.info for it in decoded),
+                      tuple(self.shown(sizes, it) for it in soft))
 
     def shown(self, sizes: steps.Sizes, soft: Soft) -> str:
         """The signs of the soft values of d."""

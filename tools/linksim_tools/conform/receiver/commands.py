@@ -9,12 +9,13 @@ import typing
 
 from linksim_tools.common.command_line import write
 from linksim_tools.common.program import Failed, add_program, program_at
-from linksim_tools.conform import record as recording
+from linksim_tools.conform import page
 from linksim_tools.conform.commands import Words, chosen, command_of, number_in, reported, written
 from linksim_tools.conform.receiver import answers as answering
 from linksim_tools.conform.receiver import report
 from linksim_tools.conform.receiver import suite as suites
 from linksim_tools.conform.receiver.level import Level
+from linksim_tools.conform.report import record_of
 
 # What a command alone needs is loaded where it is: `check` is to be done at once.
 if typing.TYPE_CHECKING:
@@ -29,7 +30,8 @@ examples:
 Exit status: 0 if all answers agree, 1 if any differs or could not be judged, or a file could not be
 read, 2 for a usage error.
 """
-ABOUT = "Conformance of a receiver with TS 38.212: a suite of cases, and a check that names the mistake."
+TITLE = "Conformance of a receiver with TS 38.212"
+ABOUT = f"{TITLE}: a suite of cases, and a check that names the mistake."
 
 
 def manner_of(given: argparse.Namespace) -> run.Manner:
@@ -61,21 +63,13 @@ def lines(listed: str, *names: str) -> typing.Callable[[argparse.Namespace], Non
     return listing_of
 
 
-def page_of(made: report.Report) -> typing.Iterator[str]:
-    """The lines of the report as a page."""
-    from linksim_tools.conform.receiver import page
-    yield from page.lines(made)
-
-
-def judged(
-    given: argparse.Namespace, suite: suites.Suite, answers: answering.Answers, troubles: list[str], notes: list[str],
-    words: list[str], levels: typing.Sequence[str] = (),
-) -> int:
+def judged(given: argparse.Namespace, suite: suites.Suite, answers: answering.Answers, troubles: list[str], notes: list[str],
+           words: list[str], levels: typing.Sequence[str] = ()) -> int:
     """Writes the report of these answers, and says the status."""
-    record = recording.record_of(words, suite)
+    record = record_of(words, suite)
     made = report.report(suite, answers, troubles, notes, record)
     made.levels += levels
-    return reported(given, made, report.text(made), page_of(made))
+    return reported(given, made, report.text(made), page.document(TITLE, page.of_report(made, report.text(made))))
 
 
 def check(given: argparse.Namespace) -> int:
@@ -116,9 +110,7 @@ def add_level(command: argparse.ArgumentParser) -> None:
     strong, bits = number_in(1, 1 << 15, int), number_in(1, 16, int)
     command.add_argument("--level", type=strong, metavar="N", help="a strong value (16, or the largest of fewer bits)")
     command.add_argument("--bits", type=bits, default=8, metavar="N", help="how many bits a value has; 1 for hard decisions (8)")
-    command.add_argument(
-        "--positive", type=int, choices=(0, 1), default=0, help="which bit a positive value means (0)"
-    )
+    command.add_argument("--positive", type=int, choices=(0, 1), default=0, help="which bit a positive value means (0)")
 
 
 def options() -> argparse.ArgumentParser:

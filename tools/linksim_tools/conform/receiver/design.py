@@ -14,6 +14,8 @@ from linksim_tools.conform.receiver.level import octets_of
 from linksim_tools.conform.receiver.made import Maker, sized
 from linksim_tools.conform.receiver.told import Case
 
+Item = typing.TypeVar("Item")
+
 # `quick` has so many cases at most.
 MOST = 330
 
@@ -79,6 +81,14 @@ def full(make: Maker) -> typing.Iterator[Case]:
     yield from of_many_code_blocks(make)
 
 
+def counted(items: typing.Iterable[Item], words: str, is_told: bool) -> typing.Iterator[Item]:
+    """The same items; each hundred of them are told on standard error, since the profile `full` takes minutes."""
+    for number, item in enumerate(items, 1):
+        if is_told and number % 100 == 0:
+            print(f"{number} cases {words}", file=sys.stderr)
+        yield item
+
+
 def with_depth(tables: steps.Tables, case: Case) -> Case:
     """A case with the rounds that its last transmission takes of the deepest code block, if it is delivered."""
     if case.rounds is not None:
@@ -101,7 +111,7 @@ def designed(tables: steps.Tables, profile: str, seed: int) -> tuple[list[Case],
     """The cases of a profile, and which were left out since they cannot be made for this table."""
     make = Maker(tables, seed)
     cases: dict[str, Case] = {}
-    for case in {"quick": quick, "full": full}[profile](make):
+    for case in counted({"quick": quick, "full": full}[profile](make), "are made", profile == "full"):
         cases.setdefault(case.id, case)
     most = MOST if profile == "quick" else len(cases)
     lacking = [f"base graph {graph}" for graph in sorted({1, 2} - tables.graphs())]
@@ -109,5 +119,9 @@ def designed(tables: steps.Tables, profile: str, seed: int) -> tuple[list[Case],
         print(f"the table lacks {graph}: its cases are left out", file=sys.stderr)
     left_out = [name for name in dict.fromkeys(make.left_out) if name not in cases]
     if left_out:
-        print(f"no pattern is found for {len(left_out)} cases, which are left out: {', '.join(left_out)}", file=sys.stderr)
+        by: dict[str, list[str]] = {}
+        for name, _, why in (it.partition(" (") for it in left_out):
+            by.setdefault(why and f" ({why}", []).append(name)
+        said = "; ".join(", ".join(names) + why for why, names in by.items())
+        print(f"no pattern is found for {len(left_out)} cases, which are left out: {said}", file=sys.stderr)
     return [with_depth(tables, it) for it in [*cases.values()][:most]], [*lacking, *left_out]

@@ -7,7 +7,6 @@ import dataclasses
 import typing
 
 from linksim_tools.conform.receiver import elimination, judged, steps
-from linksim_tools.conform.receiver.pairs import CLASH, SURE
 
 if typing.TYPE_CHECKING:
     from linksim_tools.conform.receiver.answers import Answers
@@ -17,6 +16,9 @@ if typing.TYPE_CHECKING:
     from linksim_tools.conform.receiver.told import Answer, Arrival
 
 LEVELS = range(len(judged.LEVELS))
+
+# What an answer costs that a mistake does not give: if it contradicts itself, receivers differ.
+SURE, CLASH = 10, 1
 
 # How far these come differs from decoder to decoder: which code blocks pass and which bits are known is not held to them.
 UNSURE = frozenset(["iterations-2", "iterations-4", "iterations-8"])
@@ -35,10 +37,8 @@ def words_of(answer: Answer | None, meant: str, told: Arrival) -> tuple[str | No
     return tuple(word if given else None for word, given in zip(shown, there))
 
 
-def agrees_once(
-    wanted: tuple[str, ...], word: tuple[str | None, ...] | None, levels: typing.Collection[int],
-    also: typing.Sequence[tuple[str, str]],
-) -> bool:
+def agrees_once(wanted: tuple[str, ...], word: tuple[str | None, ...] | None, levels: typing.Collection[int],
+                also: typing.Sequence[tuple[str, str]]) -> bool:
     """Whether what was answered at these levels to a transmission is this, or is accepted `also`. That is of receivers that keep
     what has passed, and may leave their soft values as they are then."""
     if word is None or all([word[level] in (None, wanted[level]) for level in levels]):

@@ -5,10 +5,11 @@ from __future__ import annotations
 
 import dataclasses
 import functools
+import itertools
 import random
 import typing
 
-from linksim_tools.conform.receiver import steps
+from linksim_tools.conform.receiver import peeling, steps
 from linksim_tools.conform.receiver.told import Arrival
 
 if typing.TYPE_CHECKING:
@@ -181,9 +182,8 @@ class Draft:
                     parts[r] = {number for group in best if group[0] == t for number in groups[group]}
         return self
 
-    def searched(
-        self, columns: Columns, groups: dict[Group, list[int]], wanted: Wanted, seed: str, tries: int
-    ) -> typing.Iterator[list[Group]]:
+    def searched(self, columns: Columns, groups: dict[Group, list[int]], wanted: Wanted, seed: str,
+                 tries: int) -> typing.Iterator[list[Group]]:
         """Few columns that fix the block, by some changes of the order in which they are wanted."""
         first, drawn = self.sizes.k // self.sizes.z, random.Random(f"{seed} {len(groups)} {self.bits[:64]}")
         ordered = sorted(groups, key=lambda it: (it[1] not in columns.partly, wanted(it[0], it[1] - first, it[2]), it))
@@ -198,9 +198,7 @@ class Draft:
                 return
             yield kept
 
-    def fewest(
-        self, columns: Columns, groups: dict[Group, list[int]], wanted: Wanted, seed: str, tries: int
-    ) -> list[Group] | None:
+    def fewest(self, columns: Columns, groups: dict[Group, list[int]], wanted: Wanted, seed: str, tries: int) -> list[Group] | None:
         """Those with the fewest values, in no more than ROUNDS rounds."""
         best: tuple[tuple[bool, int], list[Group]] | None = None
         for kept in self.searched(columns, groups, wanted, seed, tries):
@@ -210,6 +208,47 @@ class Draft:
             if best[0] <= (False, len(self.sizes.info)):
                 break
         return None if best is None or best[0][0] else best[1]
+
+    def differing(self, other: Draft) -> list[set[tuple[int, int]]]:
+        """The values, by transmission and number, that stand elsewhere in another draft of these transmissions, by code block."""
+        found: list[set[tuple[int, int]]] = []
+        for r in range(self.sizes.c):
+            pairs = [(t, mine[r], other.laid[t][r : r + 1]) for t, mine in enumerate(self.laid) if r < len(mine)]
+            there = {(t, number): place for t, _, its in pairs for it in its for number, place in zip(it.numbers, it.places)}
+            found.append({(t, number) for t, mine, _ in pairs for number, place in zip(mine.numbers, mine.places)
+                          if there.get((t, number)) != place})
+        return found
+
+    def thinned(self, most: int, needed: list[set[tuple[int, int]]]) -> bool:
+        """Takes away what is more than there are information bits, a range of one column after another, as far as the rows still
+        find the block, and nothing that is needed. Says whether at most so many values of a code block are left over."""
+        rows, sizes, z = self.receiver.rows(self.sizes), self.sizes, self.sizes.z
+        for r in range(sizes.c):
+            there: dict[int, list[tuple[int, int, int]]] = {}
+            for t, parts in enumerate(self.laid):
+                for number, place in zip(parts[r].numbers, parts[r].places) if r < len(parts) else ():
+                    if number in self.kept[t][r] and 0 <= place < sizes.size:
+                        there.setdefault(place // z, []).append((place, t, number))
+            known = peeling.columns_of("".join("01"[place in sizes.filled] for place in range(sizes.size)), z)
+            left = list(known)
+            for column, values in there.items():
+                left[column] |= sum(1 << z - 1 - place % z for place, *_ in values)
+            over = sum(map(len, there.values())) - len(sizes.info)
+            for turn, (column, values) in itertools.product((1, -1), sorted(there.items(), reverse=True)):
+                ordered = [it for it in sorted(values)[::turn] if it[2] in self.kept[it[1]][r] and it[1:] not in needed[r]]
+                low, high = 0, min(over, len(ordered))
+                while low < high:
+                    middle = (low + high + 1) // 2
+                    fewer = [it & ~sum(1 << z - 1 - place % z for place, *_ in ordered[:middle]) if at == column else it
+                             for at, it in enumerate(left)]
+                    low, high = (middle, high) if peeling.finds(rows, fewer, sizes.k) else (low, middle - 1)
+                for place, t, number in ordered[:low]:
+                    left[column] &= ~(1 << z - 1 - place % z)
+                    self.kept[t][r].discard(number)
+                over -= low
+            if over > most:
+                return False
+        return True
 
     def deep(self, wanted: Wanted, least: int, most: int, tries: int) -> int | None:
         """Keeps few columns of the one code block, which fix it in a number of rounds between these. It answers the

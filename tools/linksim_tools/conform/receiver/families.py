@@ -13,9 +13,8 @@ from linksim_tools.conform.encoder.families import limits, numbers
 from linksim_tools.conform.encoder.families import rows as of_tables
 from linksim_tools.conform.encoder.families.orders import SYMBOLS
 from linksim_tools.conform.listed import Method, Mistake, replacing
-from linksim_tools.conform.receiver import judged, peeling, steps
+from linksim_tools.conform.receiver import judged, steps
 from linksim_tools.conform.receiver.chain import Process, Receiver
-from linksim_tools.conform.receiver.conditions import needed
 from linksim_tools.conform.receiver.mistakes import SHARED, STEP_OF
 from linksim_tools.conform.receiver.soft import Soft
 from linksim_tools.conform.receiver.steps import Places, Sizes
@@ -170,8 +169,7 @@ def of_sums() -> typing.Iterator[Mistake]:
             words += ", with strong values of 16"
             yield kind("combining", "5.4.2.1", f"sums of {bits} bits {words}", "keep more bits",
                        stored=lambda _self, _right, soft, change=change: each(change, soft))
-            yield kind("parting", "-", f"values of {bits} bits {words}", "keep more bits",
-                       heard=translating(translated(change)))
+            yield kind("parting", "-", f"values of {bits} bits {words}", "keep more bits", heard=translating(translated(change)))
     weak = translated(lambda it: it if abs(it) >= 16 else 0)
     yield kind("parting", "-", "weak values are lost, with strong values of 16", "keep more bits", heard=translating(weak))
     for words, made in (("the stronger one of two values is kept", lambda old, new: old if abs(old) >= abs(new) else new),
@@ -247,69 +245,11 @@ def of_decision() -> typing.Iterator[Mistake]:
                        len(a) == sizes.a and steps.attached(a, steps.RIGHT)[sizes.a :][part] == rest[part]))
 
 
-def with_rows(graph: int, change: typing.Callable[[Sizes, list[peeling.Row]], None]) -> Method:
-    """Other parity rows of a base graph."""
-    kept: dict[typing.Any, peeling.Rows] = {}
-
-    def rows(_self: Receiver, right: Method, sizes: Sizes) -> peeling.Rows:
-        found = typing.cast(peeling.Rows, right(sizes))
-        if sizes.graph != graph:
-            return found
-        if (sizes.z, sizes.set) not in kept:
-            changed = [*found.rows]
-            change(sizes, changed)
-            kept[sizes.z, sizes.set] = peeling.Rows(found.z, found.columns, changed)
-        return kept[sizes.z, sizes.set]
-
-    return rows
-
-
-def turned(row: int, place: int, sets: typing.Collection[int]) -> typing.Callable[[Sizes, list[peeling.Row]], None]:
-    """An entry with another value in these sets."""
-    def change(sizes: Sizes, rows: list[peeling.Row]) -> None:
-        if place < len(rows[row]) and sizes.set in sets:
-            column, shift = rows[row][place]
-            rows[row] = (*rows[row][:place], (column, (shift + 1) % sizes.z), *rows[row][place + 1 :])
-
-    return change
-
-
-def without(row: int, place: int | None) -> typing.Callable[[Sizes, list[peeling.Row]], None]:
-    """A row without an entry, or without any."""
-    def change(_sizes: Sizes, rows: list[peeling.Row]) -> None:
-        rows[row] = () if place is None else (*rows[row][:place], *rows[row][place + 1 :])
-
-    return change
-
-
-def of_rows(of: Diagnosis, failing: list[str]) -> typing.Iterator[Mistake]:
-    """Rows of the decoder that are missing, or have an entry that is missing or another one. The smallest case that fails needs
-    them; they are of the set of the cases that fail if it is only one."""
-    sized = [steps.sizes(it.a, it.rate2048, steps.RIGHT) for name in failing for it in of.suite.cases[name].case.arrivals]
-    sets, graphs = sorted({it.set for it in sized}), {it.graph for it in sized}
-    there = needed(of, of.suite.cases[failing[0]]) if len(graphs) == 1 else set()
-    for graph in graphs if there else ():
-        for number, entries in enumerate(of.suite.tables.key.tables[graph]):
-            row = f"row {number} of base graph {graph}"
-            if not any(it.startswith(f"{row} ") for it in there):
-                continue
-            yield kind("decoder", "5.3.2", f"{row} is missing", "use all rows", rows=with_rows(graph, without(number, None)))
-            for place, (column, _) in enumerate(entries):
-                yield kind("decoder", "5.3.2", f"{row} has a wrong entry: column {column}", "read the table again",
-                           rows=with_rows(graph, turned(number, place, range(8))))
-                yield kind("decoder", "5.3.2", f"{row} lacks an entry: column {column}", "read the table again",
-                           rows=with_rows(graph, without(number, place)))
-                if len(sets) == 1:
-                    yield kind("decoder", "5.3.2", f"{row} has a wrong entry in set {sets[0]}: column {column}",
-                               "read the table again", rows=with_rows(graph, turned(number, place, sets)))
-
-
 def mistakes(of: Diagnosis, failing: list[str]) -> typing.Iterator[Mistake]:
-    """All of them. If a single case fails, no row is among them: many would lose one case."""
+    """All of them."""
     yield from of_decision()
     yield from of_parting()
     yield from of_sums()
     yield from of_processes()
     yield from of_places()
     yield from of_encoders(of, failing)
-    yield from of_rows(of, failing) if len(failing) > 1 else ()

@@ -61,10 +61,8 @@ def block(answer: Answer, meant: str) -> str:
 def shown(answer: Answer, meant: str, told: Arrival) -> tuple[str, ...]:
     """An answer as a suite keeps it, a word a level."""
     return (
-        block(answer, meant),
-        "" if answer.passed is None else answer.passed,
-        "" if answer.info is None else digest_of(answer.info),
-        "" if answer.soft is None else digest_of(soft_of(answer.soft, told.a, told.rate2048), least_soft(told)),
+        block(answer, meant), "" if answer.passed is None else answer.passed, "" if answer.info is None else digest_of(answer.info),
+        "" if answer.soft is None else digest_of(soft_of(answer.soft, told.a, told.rate2048), least_soft(told))
     )
 
 
@@ -84,9 +82,7 @@ def answers(tables: steps.Tables, wrong: frozenset[str], case: Case) -> tuple[Sh
     return tuple(map(shown, taken(receiver, case), case.meant, case.arrivals)), receiver.clash
 
 
-def everyone(
-    tables: steps.Tables, names: typing.Iterable[str], case: Case
-) -> dict[str, tuple[Shown, bool]]:
+def everyone(tables: steps.Tables, names: typing.Iterable[str], case: Case) -> dict[str, tuple[Shown, bool]]:
     """The same of each of these mistakes, and of none under the empty name."""
     return {name: answers(tables, frozenset([name] if name else []), case) for name in ("", *names)}
 

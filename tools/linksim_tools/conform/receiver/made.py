@@ -70,17 +70,8 @@ def codewords(a: int, rate2048: int) -> steps.Sizes:
     return steps.sizes(a, rate2048, steps.RIGHT)
 
 
-def sized(
-    a: int,
-    rate2048: int,
-    versions: typing.Sequence[int],
-    part: float | typing.Sequence[float],
-    qm: int = 1,
-    nl: int = 1,
-    limit: int | None = None,
-    mask: tuple[int, ...] | None = None,
-    over: int = 0,
-) -> list[Arrival]:
+def sized(a: int, rate2048: int, versions: typing.Sequence[int], part: float | typing.Sequence[float], qm: int = 1, nl: int = 1,
+          limit: int | None = None, mask: tuple[int, ...] | None = None, over: int = 0) -> list[Arrival]:
     """Transmissions of these versions with about so much of a round of the buffer each. `limit` is Ncb in hundredths
     of a codeword; `over` are symbols that are not shared out evenly."""
     sizes = codewords(a, rate2048)
@@ -125,9 +116,7 @@ class Maker:
         """A receiver with these mistakes."""
         return receiver_with(frozenset(wrong))(self.tables)
 
-    def draft(
-        self, name: str, arrivals: list[Arrival], wanted: drafts.Wanted | None = early, bits: str | None = None
-    ) -> Draft:
+    def draft(self, name: str, arrivals: list[Arrival], wanted: drafts.Wanted | None = early, bits: str | None = None) -> Draft:
         """A draft for a right receiver, with as little as fixes the block."""
         made = Draft(self.receiver(), arrivals, bits or self.block(name, arrivals[0].a))
         if wanted is None:

@@ -75,41 +75,61 @@ three-limit-then-12: ncb-scheduled
 """
 # So many other transmissions are tried if these have none, and so many orders of columns for the first and for others.
 OTHERS, TRIES, FEW = 8, 60, 15
+# Where this finds none, so many values of a code block may be more than it has bits, which are too few to correct an error by. That
+# is tried with transmissions of no more bits than these.
+OVER, LITTLE = 3, 2000
 
 
-def mirror(make: Maker, name: str, configurations: typing.Iterable[plain.Configuration]) -> Case | None:
-    """The first of these transmissions that a receiver with this mistake delivers and a right one does not."""
-    tried = 0
-    for label, arrivals in configurations:
-        if tried > OTHERS:
-            return None
-        try:
-            bits = make.block(f"mirror {name} {label}", arrivals[0].a)
-            draft = Draft(make.receiver(name), arrivals, bits)
-            if same(draft, Draft(make.receiver(), arrivals, bits)):
+def mirror(make: Maker, name: str, configurations: typing.Sequence[plain.Configuration]) -> Case | str:
+    """The first of these transmissions that a receiver with this mistake delivers and a right one does not, or why none is."""
+    why = "it changes nothing at these sizes"
+    for over, most in ((0, OTHERS), (OVER, 3)):
+        tried = 0
+        for label, arrivals in configurations:
+            if tried > most:
+                break
+            if over and sum(it.g for it in arrivals) > LITTLE:
                 continue
-            tried += 1
-            values = laid_for(make, name, draft, label, FEW if tried > 1 else TRIES)
-        except FAULTS:  # the mistake has no sense for these sizes
-            continue
-        if values is not None:
-            what = f"only a receiver with {name} delivers it ({label})"
-            return Case(f"mirror-{name}", MISTAKES[name].step, what, arrivals, values, [bits] * len(arrivals), name)
-    return None
+            try:
+                bits = make.block(f"mirror {name} {label}", arrivals[0].a)
+                draft, right = Draft(make.receiver(name), arrivals, bits), Draft(make.receiver(), arrivals, bits)
+                if same(draft, right):
+                    continue
+                tried += 1
+                values, why = laid_for(make, name, draft, label, FEW if tried > 1 else TRIES, over, right)
+            except FAULTS:  # the mistake has no sense for these sizes
+                continue
+            if values is not None:
+                what = f"only a receiver with {name} delivers it ({label})"
+                return Case(f"mirror-{name}", MISTAKES[name].step, what, arrivals, values, [bits] * len(arrivals), name)
+    return why
 
 
-def laid_for(make: Maker, name: str, draft: Draft, label: str, tries: int) -> list[str] | None:
-    """Values of a draft that a receiver with this mistake delivers and a right one does not, or None."""
-    for wanted in ORDERS:
+def laid_for(
+    make: Maker, name: str, draft: Draft, label: str, tries: int, over: int, right: Draft
+) -> tuple[list[str] | None, str]:
+    """Values of a draft that a receiver with this mistake delivers and a right one does not, of which so many may be more than the
+    block has bits; or None, and why. If some may, those come first that a right receiver takes otherwise."""
+    why, needed = "no columns of the table fix the block", draft.differing(right) if over else []
+    places = {(t, place // draft.sizes.z) for t, parts in enumerate(draft.laid) for r, part in enumerate(parts)
+              for number, place in zip(part.numbers, part.places) if over and (t, number) in needed[r]}
+    first = draft.sizes.k // draft.sizes.z
+
+    def otherwise(t: int, column: int, copy: int) -> typing.Any:
+        return (t, column + first) not in places, column
+
+    for wanted in (otherwise, made.extension, made.last) if over else ORDERS:
+        draft.kept = [[set(part.numbers) for part in parts] for parts in draft.laid]
         found = draft.critical(wanted, seed=label, tries=tries)
-        if found is None or found.slack():
+        if found is None or found.slack() and not (over and found.thinned(over, needed)):
+            why = why if found is None else "what fixes the block has more values than bits, so a right receiver sees the error"
             continue
         values = found.values()
-        if delivers(make, [name], draft.arrivals, values) != (draft.bits, False):
-            continue
-        if not is_fixed(make, draft, values):
-            return values
-    return None
+        if delivers(make, [name], draft.arrivals, values) == (draft.bits, False):
+            if not is_fixed(make, draft, values):
+                return values, ""
+            why = "a right receiver finds the block too"
+    return None, why
 
 
 def all_of(make: Maker) -> typing.Iterator[Case]:
@@ -120,7 +140,7 @@ def all_of(make: Maker) -> typing.Iterator[Case]:
         label, names = line.split(":")
         for name in names.split():
             found = mirror(make, name, [(label, known[label]), *small])
-            if found is None:
-                make.leave_out(f"mirror-{name}")
+            if isinstance(found, str):
+                make.leave_out(f"mirror-{name} ({found})")
             else:
                 yield found

@@ -6,6 +6,7 @@ from __future__ import annotations
 import dataclasses
 import itertools
 import pathlib
+import typing
 
 from linksim_tools.common.program import Failed, answers_of, settings_text
 from linksim_tools.conform import bits as lists
@@ -94,9 +95,7 @@ class Beginnings:
                     sums[r][place] += self.values[n][number] - ZERO
         return [self.record(n, laid[n], sums, words, meant, n == numbers[0]) for n in numbers]
 
-    def record(
-        self, n: int, laid: list[drafts.Laid], sums: list[list[int]], words: list[str], meant: str, fresh: bool
-    ) -> Record:
+    def record(self, n: int, laid: list[drafts.Laid], sums: list[list[int]], words: list[str], meant: str, fresh: bool) -> Record:
         """The record of one transmission of a round."""
         erased, flipped = [], []
         for part, total, word in zip(laid, sums, words):
@@ -143,15 +142,12 @@ def read(ran: list[str], audited: list[str], counts: list[int]) -> list[Outcome]
         if words[2] == "stuck" and stuck[-1] is None:
             stuck[-1] = int(words[4]), int(words[6]), int(words[5])
     last = itertools.accumulate(counts)
-    return [
-        Outcome(end[4], lists.of_digits(end[-1], 4 * len(end[-1])) if end[4] == "delivered" else None,
-                tuple(lefts[at - 1].values()), found)
-        for at, end, found in zip(last, ends, stuck)
-    ]
+    return [Outcome(end[4], lists.of_digits(end[-1], 4 * len(end[-1])) if end[4] == "delivered" else None,
+                    tuple(lefts[at - 1].values()), found) for at, end, found in zip(last, ends, stuck)]
 
 
 def outcomes(
-    program: pathlib.Path, table: str, tables: steps.Tables, cases: list[tuple[Case, list[bytes]]]
+    program: pathlib.Path, table: str, tables: steps.Tables, cases: typing.Iterable[tuple[Case, list[bytes]]]
 ) -> list[list[Outcome]]:
     """The program's outcome after each transmission of each of these cases."""
     found: dict[tuple[int, int], Outcome] = {}
@@ -161,7 +157,9 @@ def outcomes(
         keys, rounds = zip(*waiting.pop(settings))
         found.update(zip(keys, said(program, table, list(rounds))))
 
+    counts: list[int] = []
     for number, (case, values) in enumerate(cases):
+        counts.append(len(case.arrivals))
         settings = case.arrivals[0].rate2048, case.arrivals[0].lbrm
         for n, records in enumerate(Beginnings(tables, case, values).records()):
             waiting.setdefault(settings, []).append(((number, n), records))
@@ -171,4 +169,4 @@ def outcomes(
             flush(settings)
     for settings in list(waiting):
         flush(settings)
-    return [[found[number, n] for n in range(len(case.arrivals))] for number, (case, _) in enumerate(cases)]
+    return [[found[number, n] for n in range(count)] for number, count in enumerate(counts)]

@@ -159,6 +159,13 @@ class Peeler:
         return changed
 
 
+def finds(rows: Rows, known: typing.Sequence[int], count: int) -> bool:
+    """Whether the first `count` bits are found of what is known."""
+    made = Peeler(rows, len(rows.rows), tuple(known), tuple(known))
+    made.spread()
+    return not any(made.unknown[: count // rows.z])
+
+
 def depth(rows: Rows, known: tuple[int, ...], ones: tuple[int, ...], count: int) -> tuple[int, int] | None:
     """In how many rounds, and in how many passes layer by layer, the first `count` bits are found; None if they are
     not."""
@@ -175,9 +182,7 @@ def depth(rows: Rows, known: tuple[int, ...], ones: tuple[int, ...], count: int)
 
 
 @functools.lru_cache(1 << 14)
-def peeled(
-    rows: Rows, used: int, known: tuple[int, ...], ones: tuple[int, ...], most: int | None, held: int = 0
-) -> Peeled:
+def peeled(rows: Rows, used: int, known: tuple[int, ...], ones: tuple[int, ...], most: int | None, held: int = 0) -> Peeled:
     """What is found in at most so many rounds; what was asked before is not computed again."""
     made = Peeler(rows, used, known, ones, held)
     rounds = made.spread(most)

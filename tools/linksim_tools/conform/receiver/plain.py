@@ -14,10 +14,9 @@ from linksim_tools.conform.receiver.told import Arrival, Case
 
 # Sizes: a name, A and the code rate.
 SMALL = (
-    ("a8", 8, 2048), ("a24", 24, 2048), ("a176", 176, 1024), ("a184", 184, 1024), ("a288", 288, 2048),
-    ("a296", 296, 2048), ("a296-1372", 296, 1372), ("a296-1373", 296, 1373), ("a336", 336, 2048),
-    ("a544", 544, 1024), ("a552", 552, 1024), ("a624", 624, 1024), ("a632", 632, 1024), ("a704", 704, 1024),
-    ("a1400", 1400, 2048),
+    ("a8", 8, 2048), ("a24", 24, 2048), ("a176", 176, 1024), ("a184", 184, 1024), ("a288", 288, 2048), ("a296", 296, 2048),
+    ("a296-1372", 296, 1372), ("a296-1373", 296, 1373), ("a336", 336, 2048), ("a544", 544, 1024), ("a552", 552, 1024),
+    ("a624", 624, 1024), ("a632", 632, 1024), ("a704", 704, 1024), ("a1400", 1400, 2048)
 )
 LARGE = (
     ("a3816", 3816, 1371), ("a3824", 3824, 1372), ("a3824-1373", 3824, 1373), ("a3832-1372", 3832, 1372),
@@ -89,8 +88,7 @@ def configurations() -> typing.Iterator[Configuration]:
 
 
 WANTED: dict[str, drafts.Wanted] = {it.__name__.replace("_", "-"): it for it in (
-    made.early, made.parity, made.extension, made.late, made.even, made.first, made.last, made.first_copy,
-    made.second_copy,
+    made.early, made.parity, made.extension, made.late, made.even, made.first, made.last, made.first_copy, made.second_copy
 )}
 # In which order other columns are tried if those that are wanted do not fix the block.
 OTHERWISE = ("early", "extension", "even", "late", "parity")

@@ -17,7 +17,7 @@ from linksim_tools.conform.receiver.seen import Seen
 from linksim_tools.conform.receiver.told import UNSUPPORTED
 
 if typing.TYPE_CHECKING:
-    from linksim_tools.conform.record import Record
+    from linksim_tools.conform.report import Record
     from linksim_tools.conform.receiver.answers import Answers
     from linksim_tools.conform.receiver.suite import Kept, Suite
     from linksim_tools.conform.receiver.told import Answer, Arrival
@@ -47,12 +47,10 @@ class Report(shared.Report):
     levels: list[str] = dataclasses.field(default_factory=list)
 
     def as_object(self) -> Object:
-        return {
-            **super().as_object(), "failing": self.failing, "first": dataclasses.asdict(self.first) if self.first else None,
-            "diagnosis": self.diagnosis.as_object() if self.diagnosis else None,
-            "iterations": dataclasses.asdict(self.iterations) if self.iterations else None, "doubts": self.doubts,
-            "levels": self.levels,
-        }
+        return {**super().as_object(), "failing": self.failing, "first": dataclasses.asdict(self.first) if self.first else None,
+                "diagnosis": self.diagnosis.as_object() if self.diagnosis else None,
+                "iterations": dataclasses.asdict(self.iterations) if self.iterations else None, "doubts": self.doubts,
+                "levels": self.levels}
 
 
 def about(told: Arrival) -> str:
@@ -160,10 +158,8 @@ def steps_of(suite: Suite, of: Diagnosis, failing: list[str]) -> dict[str, share
     return found
 
 
-def report(
-    suite: Suite, answers: Answers, troubles: typing.Sequence[str] = (), notes: typing.Sequence[str] = (),
-    record: Record | None = None,
-) -> Report:
+def report(suite: Suite, answers: Answers, troubles: typing.Sequence[str] = (), notes: typing.Sequence[str] = (),
+           record: Record | None = None) -> Report:
     """The whole report."""
     lacking = [name for name, found in answers.items() if UNSUPPORTED in found]
     answers = {name: found for name, found in answers.items() if name not in set(lacking)}
@@ -171,8 +167,7 @@ def report(
     names = sorted(of.words, key=lambda name: (suite.cases[name].case.size, name))
     failing = [name for name in names if not of.is_doubt(name) and of.fails(name)]
     by_step = steps_of(suite, of, failing)
-    made = Report(suite, len(of.words), by_step, list(troubles), list(notes), record, of.words, failing,
-                  iterations=iterations(of))
+    made = Report(suite, len(of.words), by_step, list(troubles), list(notes), record, of.words, failing, iterations=iterations(of))
     if lacking:
         found = conditions.common_of(suite, [*answers, *lacking]).condition(lacking, list(answers))
         said = f"exactly where {found.words} ({shared.counted(len(lacking), 'case')})" if found else shared.listed(lacking)

@@ -8,14 +8,16 @@ import typing
 from linksim_tools.common.graphs import GRAPHS
 from linksim_tools.conform.clauses import SETS
 from linksim_tools.conform.encoder.points import first_sizes
-from linksim_tools.conform.receiver import conditions, drafts, plain
+from linksim_tools.conform.receiver import conditions, drafts, made, plain
 from linksim_tools.conform.receiver.drafts import Columns, Draft, Group
 from linksim_tools.conform.receiver.made import Maker, sized
-from linksim_tools.conform.receiver.told import Case
+from linksim_tools.conform.receiver.told import Arrival, Case
 
 # So many cases at most are made for a base graph and a set, each the best of so many drawn orders of columns, and so many more in
 # vain.
 CASES, ORDERS, IN_VAIN = 9, 60, 4
+# A size A and a code rate by which each base graph has its largest lifting size.
+LARGEST_OF = {1: (8424, 2048), 2: (3824, 512)}
 
 
 def size_of(graph: int, index: int) -> tuple[int, int]:
@@ -62,22 +64,39 @@ def best(draft: Draft, left: set[int], drawn: random.Random) -> list[Group] | No
     return found[1]
 
 
-def of_set(make: Maker, graph: int, index: int) -> typing.Iterator[Case]:
-    """The cases of a base graph and a set, until every row decides a bit."""
-    a, rate = size_of(graph, index)
-    told, = sized(a, rate, [0], 1.0, qm=(1, 2, 4)[index % 3])
-    drawn, left, vain, count = random.Random(f"{make.seed} {graph} {index}"), set(range(GRAPHS[graph].rows)), 0, 0
-    draft = Draft(make.receiver(), [told], make.block(f"rows {graph} {index}", a))
-    while left and vain < IN_VAIN and count < CASES:
+def showing(
+    make: Maker, name: str, seed: str, told: Arrival, left: set[int], most: int
+) -> typing.Generator[Case, None, set[int]]:
+    """So many cases of a transmission at most, until each of these rows decides a bit; returns those that do not."""
+    drawn, vain, count = random.Random(f"{make.seed} {seed}"), 0, 0
+    draft = Draft(make.receiver(), [told], make.block(f"rows {seed}", told.a))
+    while left and vain < IN_VAIN and count < most:
         vain += 1
         if best(draft, left, drawn):
-            case = make.case(f"rows-{graph}-set{index}-{count}", "decoder", plain.about([told], "drawn parity"), draft)
+            case = make.case(f"{name}-{count}", "decoder", plain.about([told], "drawn parity"), draft)
             shown = conditions.deciding(make.tables, told, case.values[0]) & left
             if shown:
                 left, vain, count = left - shown, 0, count + 1
                 yield case
+    return left
+
+
+def of_set(make: Maker, graph: int, index: int) -> typing.Iterator[Case]:
+    """The cases of a base graph and a set, until every row decides a bit."""
+    told, = sized(*size_of(graph, index), [0], 1.0, qm=(1, 2, 4)[index % 3])
+    left = yield from showing(make, f"rows-{graph}-set{index}", f"{graph} {index}", told, set(range(GRAPHS[graph].rows)), CASES)
     if left:
         make.leave_out(f"row {', '.join(map(str, sorted(left)))} of base graph {graph} in set {index}")
+
+
+def of_large_numbers(make: Maker, graph: int) -> typing.Iterator[Case]:
+    """Cases of the largest lifting size, by a shift of 9 bits and by a place of d of 15 bits."""
+    told, = sized(*LARGEST_OF[graph], [0], 1.0)
+    rows = make.receiver().rows(made.codewords(told.a, told.rate2048))
+    for what, some in (("shifts", {number for number, row in enumerate(rows.rows) if max(shift for _, shift in row) > 255}),
+                       ("places", {number for number, row in enumerate(rows.rows) if (row[-1][0] - 2) * rows.z > 16_383})):
+        if some and some == (yield from showing(make, f"rows-{graph}-{what}", f"{graph} {what}", told, some, 1)):
+            make.leave_out(f"rows-{graph}-{what}")
 
 
 def cases(make: Maker) -> typing.Iterator[Case]:
@@ -85,3 +104,4 @@ def cases(make: Maker) -> typing.Iterator[Case]:
     for graph in make.tables.graphs():
         for index in range(8):
             yield from of_set(make, graph, index)
+        yield from of_large_numbers(make, graph)

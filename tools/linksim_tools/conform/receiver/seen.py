@@ -1,5 +1,5 @@
 """What is seen in the answers of a receiver that fails: what the listed mistakes explain, mirrors that are delivered, conditions,
-constants, mistakes of a kind, pairs. Each is looked for when a verdict asks for it."""
+mistakes of a kind. Each is looked for when a verdict asks for it."""
 
 from __future__ import annotations
 
@@ -8,10 +8,9 @@ import dataclasses
 import functools
 import typing
 
-from linksim_tools.conform.receiver import conditions, doubts, handed, judged, starts, tried
+from linksim_tools.conform.receiver import conditions, doubts, handed, judged, reading, tried
 from linksim_tools.conform.receiver.diagnosis import LEVELS, Diagnosis
 from linksim_tools.conform.receiver.mistakes import MISTAKES
-from linksim_tools.conform.receiver.pairs import Pairs
 
 if typing.TYPE_CHECKING:
     from linksim_tools.conform.conditions import Condition
@@ -129,14 +128,10 @@ class Seen:
         return doubts.of_depth(self.of, self.failing)
 
     @functools.cached_property
-    def start(self) -> starts.Start | None:
-        return starts.start(self.of, self.failing)
-
-    @functools.cached_property
     def kinds(self) -> list[Mistake]:
         """The mistakes of a kind that give all that was answered, one of each. If only blocks are lost these must be many, or of
         the step of most cases that fail, and there must be no other kind."""
-        if self.start or not self.delivered or self.losing and not self.against:
+        if not self.delivered or self.losing and not self.against:
             return []
         if len(self.failing) < SOME and not self.of.tells(self.failing):
             return []
@@ -151,16 +146,14 @@ class Seen:
 
     @functools.cached_property
     def lines(self) -> list[str]:
-        """A constant or a condition, in words."""
-        if self.start:
-            return [self.start.line()]
-        found = conditions.condition(self.of)
+        """What is read from soft values, and a condition, in words."""
+        read, found = reading.lines(self.of, self.answers), conditions.condition(self.of)
         if found:
-            return [f"{found[0]} {found[1].line('others')}"]
+            return [*read, f"{found[0]} {found[1].line('others')}"]
         if len(self.failing) == 1:
             only = self.of.suite.cases[self.failing[0]].case
-            return [f"only {only.id} fails: {only.what}"]
-        return []
+            return [*read, f"only {only.id} fails: {only.what}"]
+        return read
 
     @functools.cached_property
     def common(self) -> list[str]:
@@ -168,14 +161,6 @@ class Seen:
         others = [name for name in self.of.judged if name not in self.failing]
         steps = {self.of.suite.cases[name].case.step for name in self.failing}
         return conditions.common_of(self.of.suite, self.of.judged).shared_by(self.failing, others, sorted(steps))
-
-    @functools.cached_property
-    def pairs(self) -> list[tuple[str, ...]]:
-        if 2 * self.delivered < self.due or len(self.failing) < SOME:
-            return []
-        found, cut = Pairs(self.of).found()
-        self.cut_short |= cut
-        return found if len(found) <= 2 else []
 
     @functools.cached_property
     def due(self) -> int:

@@ -51,8 +51,7 @@ def of_values(make: Maker, a: int, all_of_them: bool) -> typing.Iterator[Case]:
     yield case("cancelled-first", "combining", "wrong values, then right ones as strong twice", [wrong, right, right], bits)
     yield case("lowest", "parting", "the largest and the lowest values", [right.translate(LOWEST)], bits)
     yield case("weak-before", "combining", "weak wrong values, then right ones", [weak, right], bits)
-    yield case("again-nothing", "processes", "a delivered block is sent again, and nothing arrives",
-               [right, nothing], bits)
+    yield case("again-nothing", "processes", "a delivered block is sent again, and nothing arrives", [right, nothing], bits)
     one, other = in_parts(right, 2)
     yield case("strong", "combining", "half of the values four times, then the other half", [one] * 4 + [other], bits)
     yield case("sums", "combining", "four times the same half of the values, whose sum is over the largest, then the other half",
@@ -105,7 +104,8 @@ def of_full_buffers(make: Maker, a: int, rate: int) -> typing.Iterator[Case]:
         if a < 1000 or wanted == made.early:
             other = make.draft(f"after full {a} {name}", [told], wanted)
             what = f"new data after a block that filled the buffer, {name} columns first"
-            yield Case(f"fresh-after-all-{a}-{name}", "processes", what, [told, told], [*one.values(), *other.values("qQ")], [one.bits, other.bits])
+            yield Case(f"fresh-after-all-{a}-{name}", "processes", what, [told, told], [*one.values(), *other.values("qQ")],
+                       [one.bits, other.bits])
 
 
 def of_all_processes(make: Maker) -> typing.Iterator[Case]:
@@ -118,9 +118,7 @@ def of_all_processes(make: Maker) -> typing.Iterator[Case]:
                [drafts_of[it].bits for _, it in order])
 
 
-def of_fresh(
-    make: Maker, a: int, name: str, version: int, what: str, wanted: drafts.Wanted = made.early
-) -> typing.Iterator[Case]:
+def of_fresh(make: Maker, a: int, name: str, version: int, what: str, wanted: drafts.Wanted = made.early) -> typing.Iterator[Case]:
     """A case of a fresh block after another one in the same process, of which these columns arrived."""
     (told,), (then,) = (sized(a, 2048, [it], 0.97) for it in (0, version))
     before = f"before {a}" if wanted == made.early else f"before {name} {a}"

@@ -212,9 +212,7 @@ class Tables:
         if key not in self.made:
             rows, info = self.encoder(of, wrong).rows, GRAPHS[of.graph].information
             known = clauses(coding).columns_of_extension(info)
-            taken = [
-                tuple(it for it in row if number < 4 or it[0] < known or it[0] == info + number)
-                for number, row in enumerate(rows)
-            ]
+            taken = [tuple(it for it in row if number < 4 or it[0] < known or it[0] == info + number)
+                     for number, row in enumerate(rows)]
             self.made[key] = peeling.Rows(of.z, GRAPHS[of.graph].columns, taken)
         return self.made[key]

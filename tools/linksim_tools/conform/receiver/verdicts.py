@@ -15,8 +15,8 @@ if typing.TYPE_CHECKING:
     from linksim_tools.conform.listed import Mistake
     from linksim_tools.conform.receiver.seen import Seen
 
-# How many mistakes that fit are named, and how many cases a nearest one may leave unexplained.
-NAMED, UNEXPLAINED = 4, 10
+# How many mistakes that fit are named.
+NAMED = 4
 NONE = "none of the listed mistakes"
 
 
@@ -116,16 +116,10 @@ class Gives(Verdict):
             return None
         but = f" but {len(seen.against)}: {shared.listed(seen.against)}" if seen.against else ""
         if len(seen.failing) == 1:
-            return OfOne(f"{shared.what_gives(names)} what the one case that fails shows, which is little to go by", names,
-                         seen.against, apart=seen.apart(seen.giving))
+            return cls(f"{shared.what_gives(names)} what the one case that fails shows, which is little to go by", names,
+                       seen.against, apart=seen.apart(seen.giving))
         return cls(f"{shared.what_gives(names)} the blocks of all cases{but}", names, seen.against, seen.clash_note,
                    apart=seen.apart(seen.giving))
-
-
-class OfOne(Gives):
-    """The same of the one case that fails."""
-
-    kind, fits = "one", True
 
 
 class Right(Verdict):
@@ -153,9 +147,7 @@ class Kinds(Verdict):
 
     @classmethod
     def of(cls, seen: Seen) -> Verdict | None:
-        if not seen.kinds and not (seen.start and seen.proof):
-            return None
-        return cls(f"{NONE}, but:", notes=seen.lines, kinds=seen.kinds)
+        return cls(f"{NONE}, but:", notes=seen.lines, kinds=seen.kinds) if seen.kinds else None
 
 
 class Proved(Verdict):
@@ -173,8 +165,6 @@ class Proved(Verdict):
         if proof.condition and not proof.others:
             said = f"{shared.what_gives(names)} all that fails, {proof.condition.line('others that it would change')}"
             return cls(said, names, notes=[f"it is proved by what is delivered: {mirrors}"], apart=seen.apart(proof.names))
-        if proof.others and seen.pairs:
-            return Pairs.of(seen)
         notes = [f"{shared.counted(len(some), 'case')} {words}: {shared.listed(some)}" for some, words in (
             (proof.spared, "that it would change are right"), (proof.others, "that fail are not explained by it")) if some]
         said = f"a mistake like {proof.names[0]}, or {proof.names[0]} under a condition, since this is delivered: {mirrors}"
@@ -220,42 +210,17 @@ class Described(Verdict):
         return cls(f"{NONE}, but:", notes=seen.lines, next=seen.next) if seen.lines else None
 
 
-class Pairs(Verdict):
-    kind, rank = "pairs", 10
-
-    @classmethod
-    def of(cls, seen: Seen) -> Verdict | None:
-        said = "no listed mistake alone gives these answers; two together give them, as one that is not listed may:"
-        return cls(said, seen.pairs) if seen.pairs else None
-
-
-class Nearest(Verdict):
-    kind, rank = "nearest", 11
-
-    @classmethod
-    def of(cls, seen: Seen) -> Verdict | None:
-        names: list[tuple[str, ...]] = [(it,) for it in seen.near]
-        count = shared.counted(len(seen.against), "case")
-        if not names or len(seen.against) > UNEXPLAINED or 3 * len(seen.against) > len(seen.failing):
-            return None
-        if not seen.against:
-            level, case = seen.of.contradiction(seen.near[0]) or ("", "")
-            return cls(f"{NONE}; {shared.what_gives(names)} the same blocks, but not `{level}` of {case}", names, next=seen.next)
-        return cls(f"{NONE}; the nearest gives all but {count}: {shared.listed(seen.against)}", names,
-                   seen.against, next=seen.next)
-
-
 class Unexplained(Verdict):
-    kind, rank = "none", 12
+    kind, rank = "none", 10
 
     @classmethod
     def of(cls, seen: Seen) -> Verdict | None:
-        said = f"{NONE}, and no pair of them, gives these answers"
+        said = f"{NONE} gives these answers"
         return cls(said, notes=seen.common, next=seen.next)
 
 
 RANKED: list[type[Verdict]] = sorted(
-    (Long, Changed, Gives, Right, Depth, Kinds, Proved, Few, Loses, Described, Pairs, Nearest, Unexplained), key=lambda it: it.rank)
+    (Long, Changed, Gives, Right, Depth, Kinds, Proved, Few, Loses, Described, Unexplained), key=lambda it: it.rank)
 
 
 def verdict(seen: Seen) -> Verdict:

@@ -23,11 +23,8 @@ def line_of(kept: Kept) -> str:
     """The line of a case."""
     case = kept.case
     each = zip(case.arrivals, case.values, case.meant, kept.right, kept.also, kept.proved)
-    sent = [
-        {**told_of(told), "values": values, "block": lists.hexadecimal(meant), "right": right, **({"also": also} if also else {}),
-         "proved": proved}
-        for told, values, meant, right, also, proved in each
-    ]
+    sent = [{**told_of(told), "values": values, "block": lists.hexadecimal(meant), "right": right,
+             **({"also": also} if also else {}), "proved": proved} for told, values, meant, right, also, proved in each]
     groups: dict[tuple[Shown, bool], list[str]] = {}
     for name, found in kept.wrong.items():
         groups.setdefault(found, []).append(name)
@@ -52,18 +49,19 @@ def kept_of(tables: steps.Tables, case: Case, found: apart.Found, proved: list[o
     return Kept(case, right, tuple(it.words() for it in proved), wrong, accepted, clash, len(found) > 1)
 
 
-def written(
-    program: pathlib.Path, path: str, profile: str, seed: int, known: typing.Collection[str] = MISTAKES
-) -> list[str]:
+def written(program: pathlib.Path, path: str, profile: str, seed: int, known: typing.Collection[str] = MISTAKES) -> list[str]:
     """The lines of a suite, all of which are there before one is written. It has what receivers with each of the known mistakes
     answer."""
     entries = files.entries_of(path)
     tables = steps.Tables(entries)
     cases, left_out = design.designed(tables, profile, seed)
-    found = [judged.everyone(tables, known if case.size <= LONG else (), case) for case in cases]
+    is_full = profile == "full"
+    found = [judged.everyone(tables, known if case.size <= LONG else (), case)
+             for case in design.counted(cases, f"of {len(cases)} are answered with each mistake", is_full)]
     if profile == "quick" and known:
         apart.sharper(Maker(tables, seed), cases, found, design.MOST)
-    proved = oracle.outcomes(program, path, tables, [(it, [octets_of(text) for text in it.values]) for it in cases])
+    asked = [(it, [octets_of(text) for text in it.values]) for it in cases]
+    proved = oracle.outcomes(program, path, tables, design.counted(asked, f"of {len(cases)} are asked of the program", is_full))
     kept = [kept_of(tables, *it) for it in zip(cases, found, proved)]
     left_out += [case.id for case, it in zip(cases, kept) if it is None]
     lines = [line_of(it) for it in kept if it is not None]

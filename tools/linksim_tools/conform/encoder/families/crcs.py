@@ -19,9 +19,9 @@ RANGES: tuple[tuple[str, Bits], ...] = (
     *((f"begins after {n} bits", lambda it, n=n: it[n:]) for n in (1, 2, 4, 8, 16, 24, 32, 64)),
     *((f"ends {n} bits early", lambda it, n=n: it[:-n]) for n in (1, 2, 4, 8, 16, 24, 32, 64)),
     *((f"takes {n} zeros more", lambda it, n=n: it + "0" * n) for n in (1, 8, 16, 24, 32)),
-    *((f"takes zeros up to a multiple of {n} bits", lambda it, n=n: it + "0" * (-len(it) % n)) for n in (16, 32, 64, 128)),
+    *((f"takes zeros up to a multiple of {n} bits", lambda it, n=n: it + "0" * (-len(it) % n)) for n in (8, 16, 32, 64, 128)),
     *((f"takes ones up to a multiple of {n} bits", lambda it, n=n: it + "1" * (-len(it) % n)) for n in (8, 16, 32, 64)),
-    *((f"leaves out what is no multiple of {n} bits", lambda it, n=n: it[: len(it) // n * n]) for n in (16, 32, 64, 128)),
+    *((f"leaves out what is no multiple of {n} bits", lambda it, n=n: it[: len(it) // n * n]) for n in (8, 16, 32, 64, 128)),
     ("goes over the bits in reverse", lambda it: it[::-1]), ("goes over inverted bits", lists.inverted),
     ("goes over the first half of the bits", lambda it: it[: len(it) // 2]),
 )
@@ -29,8 +29,7 @@ RANGES: tuple[tuple[str, Bits], ...] = (
 # Parity bits of some code blocks, of the right ones.
 PARITIES: tuple[tuple[str, Bits], ...] = (
     ("zeros", lambda it: "0" * len(it)), ("ones", lambda it: "1" * len(it)), ("inverted", lists.inverted),
-    ("in reverse", lambda it: it[::-1]),
-    ("those of CRC24A", lambda it: it),
+    ("in reverse", lambda it: it[::-1]), ("those of CRC24A", lambda it: it)
 )
 WHICH: tuple[tuple[str, typing.Callable[[int, int], bool]], ...] = (
     ("r = 0", lambda r, c: r == 0), ("r > 0", lambda r, c: r > 0), ("the last code block", lambda r, c: r == c - 1),

@@ -101,10 +101,8 @@ RULES = (
 def mistakes(trials: Trials) -> typing.Iterator[Mistake]:
     """The limits that these cases tell from the right ones."""
     plans = [trial.right.plan for trial in trials]
-    numbers = {
-        "A": sorted({it.a for it in plans}), "B": sorted({it.b for it in plans}),
-        "2048 R": sorted({trial.case.rate2048 for trial in trials}),
-    }
+    numbers = {"A": sorted({it.a for it in plans}), "B": sorted({it.b for it in plans}),
+               "2048 R": sorted({trial.case.rate2048 for trial in trials})}
     for rule in RULES:
         yield from rule.moved(trials, numbers)
     for less in (8, 16, 24, 32):
@@ -113,7 +111,7 @@ def mistakes(trials: Trials) -> typing.Iterator[Mistake]:
         yield mistake("other-limit", "segmentation", f"several code blocks already where B > Kcb - {less}", "where B > Kcb",
                       {"has_several": lambda _self, b, most, less=less: b > most - less})
     for graph, most in KCB.items():
-        for other in itertools.chain(range(most - 64, most + 65, 8), (8424, 8192, 6144, 3816, 4096, 3072)):
+        for other in itertools.chain(range(most - 64, most + 65, 8), (8448, 8424, 8192, 6144, 3840, 3816, 4096, 3072)):
             if other != most:
                 wrong = f"Kcb of base graph {graph} is {other}"
                 yield mistake("other-limit", "segmentation", wrong, f"{most}", most_by(graph, other))

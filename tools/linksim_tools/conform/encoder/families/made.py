@@ -11,15 +11,11 @@ from linksim_tools.conform.listed import Mistake
 Method = typing.Callable[..., typing.Any]
 
 # The further steps in which a mistake of a step's hook can show by itself.
-CLAUSES = {
-    "crc": "5.1", "graph": "6.2.2, 7.2.2", "segmentation": "5.2.2", "codecrc": "5.2.2", "ldpc": "5.3.2", "buffer": "5.4.2.1",
-    "lengths": "5.4.2.1", "selection": "5.4.2.1", "interleaving": "5.4.2.2", "concatenation": "5.5",
-}
+CLAUSES = {"crc": "5.1", "graph": "6.2.2, 7.2.2", "segmentation": "5.2.2", "codecrc": "5.2.2", "ldpc": "5.3.2", "buffer": "5.4.2.1",
+           "lengths": "5.4.2.1", "selection": "5.4.2.1", "interleaving": "5.4.2.2", "concatenation": "5.5"}
 
 
-def mistake(
-    name: str, step: str | tuple[str, ...], wrong: str, change: str, methods: typing.Mapping[str, Method]
-) -> Mistake:
+def mistake(name: str, step: str | tuple[str, ...], wrong: str, change: str, methods: typing.Mapping[str, Method]) -> Mistake:
     """A mistake that replaces these methods of the chain."""
     first, *also = (step,) if isinstance(step, str) else step
     made = type("Made", (Clauses,), dict(methods))

@@ -14,7 +14,7 @@ from linksim_tools.conform.listed import Mistake
 HOOKS = {
     "start": ("k0", "buffer"), "buffer_length": ("Ncb", "buffer"), "reference": ("Nref", "buffer"),
     "bits_of_code_block": ("K'", "segmentation"), "count": ("C", "segmentation"), "shift": ("P", "ldpc"), "value": ("V", "ldpc"),
-    "first_bit": ("the place of a code block's first bit", "codecrc"),
+    "first_bit": ("the place of a code block's first bit", "codecrc")
 }
 SETTINGS = {"g": ("G", ("lengths",)), "lbrm": ("TBS_LBRM", ("buffer",)), "rate2048": ("2048 R", ("graph",))}
 WIDE = "keep all its bits"
@@ -100,6 +100,9 @@ REFERENCES: tuple[Formula, ...] = (
 
 # k0 of its number in the table, the number of columns, Ncb, Zc and the plan.
 BEGINS: tuple[Formula, ...] = (
+    ("number Ncb / (columns Zc), rounded to the nearest, times Zc",
+     lambda n, columns, ncb, z, _: (2 * n * ncb + columns * z) // (2 * columns * z) * z),
+    ("ceil(number Ncb / (columns Zc)) Zc", lambda n, columns, ncb, z, _: -(-n * ncb // (columns * z)) * z),
     ("number floor(Ncb / (columns Zc)) Zc", lambda n, columns, ncb, z, _: n * (ncb // (columns * z)) * z),
     ("floor(number Ncb / columns)", lambda n, columns, ncb, _z, _: n * ncb // columns),
     ("floor(Ncb / columns) number", lambda n, columns, ncb, _z, _: ncb // columns * n),
@@ -133,7 +136,7 @@ Part = typing.Tuple[str, typing.Callable[..., typing.Any]]
 UNITS: tuple[Part, ...] = (
     ("", unit_of), ("the unit is NL", lambda it: it.nl), ("the unit is Qm", lambda it: it.qm), ("the unit is 1", lambda _: 1),
     ("the unit is the larger of NL and Qm", lambda it: max(it.nl, it.qm)), ("the unit is 2 Qm", lambda it: 2 * it.qm),
-    ("the unit is 8", lambda _: 8), ("the unit is 2 NL Qm", lambda it: 2 * unit_of(it)),
+    ("the unit is 8", lambda _: 8), ("the unit is 2 NL Qm", lambda it: 2 * unit_of(it))
 )
 COUNTED: tuple[Part, ...] = (("", lambda n, _: n), ("G is shared out to C", lambda _, c: c),
                              ("G is shared out to C' + 1", lambda n, _: n + 1))
@@ -205,7 +208,7 @@ def taken_as() -> typing.Iterator[Mistake]:
     """A value of NL or Qm that is taken for another one."""
     for field, name, values, steps in (
         ("nl", "NL", (1, 2, 3, 4), ("lengths",)), ("qm", "Qm", (1, 2, 4, 6, 8), ("lengths", "interleaving")),
-        ("rv", "rv", (0, 1, 2, 3), ("buffer",)),
+        ("rv", "rv", (0, 1, 2, 3), ("buffer",))
     ):
         for one, two in itertools.permutations(values, 2):
             yield mistake("taken-as", steps, f"{name} = {one} is taken as {two}", "take it as it is given",
@@ -220,11 +223,10 @@ COUNTS: tuple[Formula, ...] = (
     ("ceil((B + 24) / (Kcb - 24))", lambda b, most, l: -(-(b + 24) // (most - l))),
     ("ceil((B - 24) / (Kcb - 24))", lambda b, most, l: -(-(b - 24) // (most - l))),
     ("floor(B / Kcb) + 1", lambda b, most, _: b // most + 1), ("ceil(B / (Kcb + 24))", lambda b, most, l: -(-b // (most + l))),
+    ("ceil(B / Kcb)", lambda b, most, _: -(-b // most)),
 )
-PARTS: tuple[Formula, ...] = (
-    ("ceil(B / C) + L", lambda b, c, l: -(-b // c) + l), ("floor(B / C)", lambda b, c, _: b // c),
-    ("floor(B / C) + L, rounded up to octets", lambda b, c, l: -(-(b // c + l) // 8) * 8),
-)
+PARTS: tuple[Formula, ...] = (("ceil(B / C) + L", lambda b, c, l: -(-b // c) + l), ("floor(B / C)", lambda b, c, _: b // c),
+                              ("floor(B / C) + L, rounded up to octets", lambda b, c, l: -(-(b // c + l) // 8) * 8))
 SIZED: tuple[Formula, ...] = (
     ("the least Zc with 22 Zc >= K'", lambda _g, _kb, kdash: next(z for z in SIZES if 22 * z >= kdash or z == 384)),
     ("the least Zc with 10 Zc >= K'", lambda _g, _kb, kdash: next(z for z in SIZES if 10 * z >= kdash or z == 384)),
@@ -287,6 +289,12 @@ def exchanged() -> typing.Iterator[Mistake]:
         yield mistake("exchanged", "segmentation", said, "the row of Table 5.3.2-1 that has Zc", {
             "set_index": lambda _self, z, s=swap: s.get(SETS[z], SETS[z])})
     for graph, (numbers, columns) in STARTS.items():
+        for version, other in itertools.product(range(4), range(columns)):
+            changed = (*numbers[:version], other, *numbers[version + 1 :])
+            if changed != numbers:
+                said = f"k0 of rv = {version} by base graph {graph} is not made of {numbers[version]}: {other}"
+                yield mistake("k0-begins", "buffer", said, "Table 5.4.2.1-2", {
+                    "starts": lambda _self, it, g=graph, n=changed, c=columns: (n, c) if it == g else STARTS[it]})
         for other in (columns - 2, columns + 2, STARTS[3 - graph][1], GRAPHS[graph].information):
             said = f"k0 of base graph {graph} is divided by {other} Zc"
             yield mistake("other-formula", "buffer", said, f"{columns} Zc", {

@@ -90,9 +90,7 @@ def filled_up(width: int) -> typing.Callable[[list[str]], list[str]]:
     return lambda f: [it + "0" * (-len(it) % width) for it in f[:-1]] + f[-1:]
 
 
-def joined(
-    change: typing.Callable[[list[str]], list[str]], cut: bool = False, scheduled: bool = True
-) -> dict[str, Method]:
+def joined(change: typing.Callable[[list[str]], list[str]], cut: bool = False, scheduled: bool = True) -> dict[str, Method]:
     """Code blocks joined otherwise, those alone of which something is sent, or all."""
     def made(_self: Clauses, f: list[str]) -> str:
         found = "".join(change([it for it in f if it or not scheduled]))

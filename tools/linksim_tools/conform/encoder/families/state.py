@@ -42,9 +42,8 @@ def facts_of(case: Case) -> Facts:
     return Facts(case)
 
 
-def number(
-    hook: str, read: typing.Callable[[Facts], typing.Any], *, is_same_length: bool = False, at_most_given: bool = False
-) -> dict[str, Method]:
+def number(hook: str, read: typing.Callable[[Facts], typing.Any], *, is_same_length: bool = False,
+           at_most_given: bool = False) -> dict[str, Method]:
     """A number of the case before; of lists only those of one length, of Ncb at most the N that is given."""
     right = getattr(Clauses, hook)
 
@@ -96,22 +95,6 @@ def in_one(kept: typing.Callable[[str, str, int], str], suite: Suite) -> dict[st
     return found
 
 
-def by_column(suite: Suite) -> dict[str, str]:
-    """The same if each column has a memory of its own."""
-    memory: dict[int, str] = {}
-    found = {}
-    for values in suite.values.values():
-        plan, z = values.plan, values.plan.z
-        for bits in values.bits if plan.c * plan.k < MOST else []:
-            old = []
-            for column in range(plan.k // z):
-                kept, new = memory.get(column, ""), bits[column * z : (column + 1) * z]
-                old.append(kept[len(new) : z].ljust(z - len(new), "0"))
-                memory[column] = new + kept[len(new) :]
-            found[bits] = "".join(old)
-    return found
-
-
 def whole_words(suite: Suite) -> dict[str, str]:
     """The same if whole codewords follow each other in one memory, with what the old bits make of their parity."""
     memory, found, work = "", {}, 0
@@ -154,7 +137,6 @@ def mistakes_of(suite: Suite) -> tuple[Mistake, ...]:
                          "begin with zeros", register(suite)))
     memories: tuple[tuple[typing.Callable[[Suite], dict[str, str]], str], ...] = (
         (functools.partial(in_one, lambda memory, bits, count: bits + memory[count:]), "in one memory"),
-        (by_column, "in a memory for each column"),
         (functools.partial(in_one, lambda _memory, bits, _count: bits), "of the code block before"),
         (whole_words, "with parity bits, in one memory"),
     )

@@ -32,15 +32,15 @@ def zero_dropped(_self: Clauses, right: Method, rows: list[Row], graph: int, ind
 def one_more(_self: Clauses, right: Method, bits: str, fillers: str) -> typing.Any:
     """A filler in the place of the last bit, if there are fillers."""
     return right(bits[:-1] + lists.FILLER if fillers.startswith(lists.FILLER) else bits, fillers)
+
+
 mistake("ldpc", "shift-left", "5.3.2", "the identity matrix is shifted to the left",
         "bit t of a row takes bit (t + P) mod Zc of the column", shift=turned)
 mistake("ldpc", "shift-unreduced", "5.3.2", "a value V >= Zc is not reduced, and its column is taken unshifted",
         "P = V mod Zc", shift=lambda _self, _right, value, z, *_: value if value < z else 0)
-mistake("ldpc", "shift-lost", "5.3.2",
-        "a value V >= Zc is not reduced, and shifts its column out: the entry gives zeros", "P = V mod Zc",
-        shift=lambda _self, _right, value, z, *_: value if value <= z else None)
-mistake("ldpc", "shift-subtracted-once", "5.3.2", "of a value V >= Zc Zc is subtracted once",
-        "P = V mod Zc: subtract until P < Zc",
+mistake("ldpc", "shift-lost", "5.3.2", "a value V >= Zc is not reduced, and shifts its column out: the entry gives zeros",
+        "P = V mod Zc", shift=lambda _self, _right, value, z, *_: value if value <= z else None)
+mistake("ldpc", "shift-subtracted-once", "5.3.2", "of a value V >= Zc Zc is subtracted once", "P = V mod Zc: subtract until P < Zc",
         shift=lambda _self, _right, value, z, *_: subtracted(value, z) if subtracted(value, z) < z else 0)
 mistake("ldpc", "shift-subtracted-lost", "5.3.2",
         "of a value V >= Zc Zc is subtracted once, and what is still over Zc shifts the column out",
@@ -50,11 +50,8 @@ mistake("ldpc", "shift-capped", "5.3.2", "a value V >= Zc counts as Zc - 1", "P 
         shift=lambda _self, _right, value, z, *_: min(value, z - 1))
 mistake("ldpc", "shift-scaled", "5.3.2", "P is V Zc / Zmax, with the largest lifting size of the set", "P = V mod Zc",
         shift=lambda _self, _right, value, z, largest: value * z // largest % z)
-mistake("ldpc", "shift-masked", "5.3.2", "P is V and Zc - 1, bit by bit",
-        "P = V mod Zc: a mask is right for powers of two alone",
+mistake("ldpc", "shift-masked", "5.3.2", "P is V and Zc - 1, bit by bit", "P = V mod Zc: a mask is right for powers of two alone",
         shift=lambda _self, _right, value, z, *_: value & (z - 1))
-mistake("ldpc", "shift-8-bits", "5.3.2", "of a value V 8 bits are kept", "V is up to 383: 9 bits",
-        value=lambda _self, right, value: right(value) & 255)
 mistake("ldpc", "shift-multiple-dropped", "5.3.2", "an entry whose value is a multiple of Zc (and not 0) is left out",
         "P = 0 is the identity matrix",
         shift=lambda _self, right, value, z, largest: None if value and value % z == 0 else right(value, z, largest))
@@ -66,11 +63,9 @@ mistake("ldpc", "fillers-first", "5.2.2, 5.3.2", "the fillers stand before the b
         "they are the places K' to K - 1", filled=lambda _self, _right, bits, fillers: fillers + bits)
 mistake("ldpc", "fillers-sent", "5.3.2", "fillers are sent as zeros", "d has NULL there, and selection skips them",
         filler_places=lambda _self, _right, count: "0" * count)
-mistake("ldpc", "fillers-one-fewer", "5.3.2", "the first filler is sent as a zero",
-        "the places K' to K - 1 are fillers",
+mistake("ldpc", "fillers-one-fewer", "5.3.2", "the first filler is sent as a zero", "the places K' to K - 1 are fillers",
         filler_places=lambda _self, _right, count: ("0" + lists.FILLER * count)[:count])
-mistake("ldpc", "fillers-one-more", "5.3.2",
-        "the last bit of a code block is left out as a filler, where it has fillers",
+mistake("ldpc", "fillers-one-more", "5.3.2", "the last bit of a code block is left out as a filler, where it has fillers",
         "the places K' to K - 1 are fillers", filled=one_more)
 mistake("ldpc", "punctured-sent", "5.3.2", "the first 2 Zc bits are part of d, which has N + 2 Zc bits",
         "d_0 is bit 2 Zc of the code block", ("buffer",), sent_columns=lambda _self, _right, word, *_: word)

@@ -5,8 +5,7 @@ from __future__ import annotations
 from linksim_tools.conform import bits as lists
 from linksim_tools.conform.encoder.mistakes.listed import mistake
 
-mistake("crc", "crc-exchanged", "6.2.1, 7.2.1", "CRC16 and CRC24A are exchanged",
-        "attach CRC24A where A > 3824, else CRC16",
+mistake("crc", "crc-exchanged", "6.2.1, 7.2.1", "CRC16 and CRC24A are exchanged", "attach CRC24A where A > 3824, else CRC16",
         crc_of_block=lambda _self, right, a: {"CRC16": "CRC24A", "CRC24A": "CRC16"}[right(a)])
 mistake("crc", "crc-by-b", "6.2.1, 7.2.1", "the CRC is chosen by B = A + 16 in place of A",
         "compare A, without the CRC, with 3824", crc_of_block=lambda _self, right, a: right(a + 16))
@@ -22,23 +21,10 @@ mistake("crc", "crc-parity-lowest-first", "5.1", "the parity bits are sent lowes
 mistake("crc", "crc-octets-lowest-first", "5.1", "the CRC takes the lowest bit of each octet first",
         "take the bits in the order in which they are sent", ("codecrc",),
         crc_input=lambda _self, right, bits: right(lists.each_octet_reversed(bits)))
-mistake("crc", "octets-lowest-first", "6.2.1, 7.2.1", "the lowest bit of each octet of the block is a_0",
-        "a_0 is the highest bit of the first octet",
-        block=lambda _self, right, a: lists.each_octet_reversed(right(a)))
 mistake("codecrc", "code-crc-zeros", "5.2.2", "zeros stand where the CRC24B of a code block belongs",
         "write its 24 parity bits there", code_block_crc=lambda *_: "0" * 24)
 mistake("codecrc", "code-crc-over-fillers", "5.2.2", "the CRC24B of a code block goes over its fillers too",
-        "take the K' - L bits alone",
-        code_block_crc=lambda _self, right, part, fillers: right(part + "0" * fillers, fillers))
+        "take the K' - L bits alone", code_block_crc=lambda _self, right, part, fillers: right(part + "0" * fillers, fillers))
 mistake("codecrc", "crc-after-segmentation", "6.2.1, 5.2.2",
         "the CRC of the transport block goes over the CRC24Bs before it too", "take the A bits alone",
         last_part=lambda self, _right, before, part: part[:-24] + self.crc("CRC24A", "".join(before) + part[:-24]))
-mistake("codecrc", "code-crc-24a", "5.1, 5.2.2", "the CRC of a code block is CRC24A, as that of the transport block",
-        "CRC24B: 0x800063", crc_of_code_block=lambda *_: "CRC24A")
-mistake("codecrc", "code-crc-octets-alone", "5.2.2",
-        "the CRC24B of a code block leaves out its last octet where that is not whole", "take all K' - L bits",
-        code_block_crc=lambda _self, right, part, fillers: right(part[: len(part) // 8 * 8], fillers))
-mistake("codecrc", "code-crc-octets-filled", "5.2.2",
-        "the CRC24B of a code block takes zeros after its last octet where that is not whole",
-        "take the K' - L bits alone",
-        code_block_crc=lambda _self, right, part, fillers: right(part + "0" * (-len(part) % 8), fillers))

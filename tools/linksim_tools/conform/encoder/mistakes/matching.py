@@ -4,7 +4,7 @@ from __future__ import annotations
 
 import typing
 
-from linksim_tools.conform.case import Case, Plan
+from linksim_tools.conform.case import Plan
 from linksim_tools.conform.clauses import Clauses
 from linksim_tools.conform.encoder.mistakes.listed import mistake
 from linksim_tools.conform.listed import Method
@@ -19,15 +19,6 @@ def begun(formula: typing.Callable[[int, int, int], int]) -> Method:
         return formula(numerators[version] * length, columns, plan.z)
 
     return start
-
-
-def rest_last(self: Clauses, _right: Method, case: Case, c: int, chosen: list[int]) -> list[int]:
-    """E_r with all that is left over in the last code block."""
-    unit = self.unit(case)
-    least, rest = divmod(case.g // unit, len(chosen))
-    found = [least * unit if r in chosen else 0 for r in range(c)]
-    found[chosen[-1]] += rest * unit
-    return found
 
 
 mistake("buffer", "ncb-no-factor", CLAUSE, "Nref lacks the factor R_LBRM = 2/3: TBS_LBRM / C",
@@ -46,18 +37,8 @@ mistake("buffer", "k0-from-n", TABLE, "k0 is taken from N", "take it from Ncb",
         start=lambda _self, right, plan, _length, version: right(plan, plan.n, version))
 mistake("buffer", "k0-no-floor", TABLE, "k0 is no multiple of Zc", "round down before you multiply by Zc",
         start=begun(lambda product, columns, _z: product // columns))
-mistake("buffer", "k0-rounded", TABLE, "k0 is rounded to the nearest multiple of Zc", "round down",
-        start=begun(lambda product, columns, z: (2 * product + columns * z) // (2 * columns * z) * z))
-mistake("buffer", "k0-rounded-up", TABLE, "k0 is rounded up to a multiple of Zc", "round down",
-        start=begun(lambda product, columns, z: -(-product // (columns * z)) * z))
-mistake("buffer", "k0-66", TABLE, "k0 is divided by 66 Zc at base graph 2 too", "66 Zc at base graph 1, 50 Zc at 2",
-        starts=lambda _self, right, graph: (right(graph)[0], 66))
-mistake("buffer", "k0-16-bits", TABLE, "the product with Ncb keeps 16 bits",
-        "it needs 21 bits: 56 Ncb is up to 1,419,264",
-        start=begun(lambda product, columns, z: (product & 65535) // (columns * z) * z))
 mistake("buffer", "k0-other-graph", TABLE, "k0 is that of the other base graph",
-        "17, 33, 56 of 66 at base graph 1; 13, 25, 43 of 50 at 2",
-        starts=lambda _self, right, graph: right(3 - graph))
+        "17, 33, 56 of 66 at base graph 1; 13, 25, 43 of 50 at 2", starts=lambda _self, right, graph: right(3 - graph))
 mistake("buffer", "k0-shifted", TABLE, "k0 is 2 Zc too large", "d_0 already is bit 2 Zc of the code block",
         start=lambda _self, right, plan, length, version: right(plan, length, version) + 2 * plan.z)
 mistake("buffer", "k0-in-word", TABLE, "k0 is 2 Zc too small, where it is not 0",
@@ -67,15 +48,10 @@ mistake("buffer", "rv-order", TABLE, "the redundancy versions are taken in the o
         "the order is the scheduler's; rv is the number",
         start=lambda _self, right, plan, length, version: right(plan, length, (0, 2, 3, 1)[version]))
 mistake("lengths", "lengths-longer-first", CLAUSE, "the longer code blocks come first",
-        "the first C' - mod(G / (NL Qm), C') are the shorter ones",
-        is_longer=lambda _self, _right, j, _count, longer: j < longer)
+        "the first C' - mod(G / (NL Qm), C') are the shorter ones", is_longer=lambda _self, _right, j, _count, longer: j < longer)
 mistake("lengths", "lengths-j-strict", CLAUSE, "one code block fewer is a shorter one: j < is asked for j <=",
         "j <= C' - mod(G / (NL Qm), C') - 1",
         is_longer=lambda _self, _right, j, count, longer: longer > 0 and j >= count - longer - 1)
-mistake("lengths", "lengths-floor", CLAUSE, "all code blocks have the shorter length",
-        "the last mod(G / (NL Qm), C') are one unit longer", is_longer=lambda *_: False)
-mistake("lengths", "lengths-rest-last", CLAUSE, "the last code block has all that is left over",
-        "each of the last mod(G / (NL Qm), C') has one unit more", lengths=rest_last)
 mistake("lengths", "lengths-no-layers", CLAUSE, "E_r is a multiple of Qm alone", "share out G / (NL Qm)",
         unit=lambda _self, _right, case: case.qm)
 mistake("lengths", "lengths-count-all", CLAUSE, "G is shared out to all C code blocks",

@@ -50,48 +50,36 @@ def last_octet(change: typing.Callable[[str], str]) -> Method:
 
 
 mistake("selection", "fillers-counted", CLAUSE, "fillers are skipped but counted, and zeros end e",
-        "k goes on only where a bit was taken",
-        selected=lambda self, _right, *given: counted(self, *given).ljust(given[-1], "0"))
+        "k goes on only where a bit was taken", selected=lambda self, _right, *given: counted(self, *given).ljust(given[-1], "0"))
 mistake("selection", "fillers-counted-short", CLAUSE, "fillers are skipped but counted, and e is shorter",
         "k goes on only where a bit was taken", selected=lambda self, _right, *given: counted(self, *given))
-mistake("selection", "fillers-after-wrap", CLAUSE, "fillers are sent as zeros past the buffer's end",
-        "skip them in every round",
+mistake("selection", "fillers-after-wrap", CLAUSE, "fillers are sent as zeros past the buffer's end", "skip them in every round",
         turns=lambda _self, right, *given: (right(*given)[0], right(*given)[1].replace(lists.FILLER, "0")))
 mistake("selection", "wrapped-at-n", CLAUSE, "the buffer wraps round at N", "it wraps round at Ncb",
         ring=lambda _self, _right, d, *_: d)
 mistake("selection", "wrapped-early", CLAUSE, "the last place of the buffer is never read",
-        "the places are 0 to Ncb - 1: (k0 + j) mod Ncb",
-        ring=lambda _self, right, d, length: right(d, max(length - 1, 1)))
+        "the places are 0 to Ncb - 1: (k0 + j) mod Ncb", ring=lambda _self, right, d, length: right(d, max(length - 1, 1)))
 mistake("selection", "wrapped-late", CLAUSE, "one place past the end of a limited buffer is read",
         "the places are 0 to Ncb - 1: (k0 + j) mod Ncb", ring=lambda _self, right, d, length: right(d, length + 1))
 mistake("selection", "wrapped-late-zero", CLAUSE, "one place past the buffer's end is read, and is 0 after d",
-        "the places are 0 to Ncb - 1: (k0 + j) mod Ncb",
-        ring=lambda _self, right, d, length: right(d + "0", length + 1))
+        "the places are 0 to Ncb - 1: (k0 + j) mod Ncb", ring=lambda _self, right, d, length: right(d + "0", length + 1))
 mistake("selection", "wrapped-late-empty", CLAUSE, "one place past the buffer's end is read, and is 0 there",
         "the places are 0 to Ncb - 1: (k0 + j) mod Ncb", ring=lambda _self, right, d, length: right(d, length) + "0")
 mistake("selection", "wrapped-to-k0", CLAUSE, "past the buffer's end k0 follows again",
         "place 0 follows: (k0 + j) mod Ncb", turns=lambda _self, right, *given: right(*given)[:1] * 2)
-mistake("selection", "one-round", CLAUSE, "zeros are sent after one round of the buffer",
-        "go round until there are E bits",
+mistake("selection", "one-round", CLAUSE, "zeros are sent after one round of the buffer", "go round until there are E bits",
         selected=lambda self, right, *given: one_round(self, right, *given).ljust(given[-1], "0"))
 mistake("selection", "one-round-short", CLAUSE, "nothing is sent after one round of the buffer",
         "go round until there are E bits", selected=one_round)
-mistake("interleaving", "interleaver-transposed", "5.4.2.2", "the interleaver's inverse",
-        "f_(i + j Qm) = e_(i E / Qm + j)",
+mistake("interleaving", "interleaver-transposed", "5.4.2.2", "the interleaver's inverse", "f_(i + j Qm) = e_(i E / Qm + j)",
         interleaved=lambda _self, _right, e, symbol: "".join(e[row::symbol] for row in range(symbol)))
-mistake("interleaving", "interleaver-by-columns", "5.4.2.2",
-        "written by columns and read by columns, e stays as it is", "write it by rows: Qm rows of E / Qm bits",
-        interleaved=lambda _self, _right, e, *_: e)
+mistake("interleaving", "interleaver-by-columns", "5.4.2.2", "written by columns and read by columns, e stays as it is",
+        "write it by rows: Qm rows of E / Qm bits", interleaved=lambda _self, _right, e, *_: e)
 mistake("interleaving", "interleaver-symbol-reversed", "5.4.2.2", "the bits of each symbol are in reverse",
         "row 0 is read first", interleaved=lambda _self, right, e, symbol: symbols_reversed(right(e, symbol), symbol))
 mistake("interleaving", "interleaver-over-all", "5.4.2.2, 5.5", "one interleaver goes over all code blocks together",
         "interleave each code block, then join them", interleaved_all=over_all)
-mistake("concatenation", "blocks-reversed", "5.5", "the last code block is sent first", "join f of r = 0 first",
-        joined=lambda _self, _right, f: "".join(reversed(f)))
-mistake("concatenation", "last-octet-lost", "5.5", "the last octet is left out where it is not whole",
-        "send all G bits", joined=last_octet(lambda _last: ""))
-mistake("concatenation", "last-octet-reversed", "5.5",
-        "the bits of the last octet are in reverse where it is not whole",
+mistake("concatenation", "last-octet-reversed", "5.5", "the bits of the last octet are in reverse where it is not whole",
         "the first bit of an octet is its highest, also in the last one", joined=last_octet(lambda last: last[::-1]))
 mistake("concatenation", "last-octet-right-aligned", "5.5",
         "the bits of the last octet stand at its low end where it is not whole: zeros come first",

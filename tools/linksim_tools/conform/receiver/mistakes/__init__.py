@@ -18,11 +18,8 @@ from linksim_tools.conform.receiver.told import Arrival
 MODULES = (recovery, combining, decoding, decision)
 
 # In which step of a receiver an encoder's mistakes show.
-STEP_OF = {
-    "crc": "decision", "graph": "places", "segmentation": "places", "codecrc": "decision", "ldpc": "decoder",
-    "buffer": "places", "lengths": "parting", "selection": "places", "interleaving": "parting",
-    "concatenation": "parting",
-}
+STEP_OF = {"crc": "decision", "graph": "places", "segmentation": "places", "codecrc": "decision", "ldpc": "decoder",
+           "buffer": "places", "lengths": "parting", "selection": "places", "interleaving": "parting", "concatenation": "parting"}
 
 # The encoders' mistakes that a receiver can make too.
 SHARED = """

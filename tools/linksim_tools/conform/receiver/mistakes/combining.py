@@ -39,9 +39,8 @@ def stuck(_self: Receiver, _right: Method, process: Process, bits: str | None) -
 
 mistake("combining", "combine-last", "5.4.2.1",
         "a retransmission's values replace those there were, erased ones too", "add them", combined=replaced)
-mistake("combining", "combine-last-heard", "5.4.2.1",
-        "a retransmission's values replace those there were, if something arrived", "add them",
-        combined=pairwise(lambda old, new: new or old))
+mistake("combining", "combine-last-heard", "5.4.2.1", "a retransmission's values replace those there were, if something arrived",
+        "add them", combined=pairwise(lambda old, new: new or old))
 mistake("combining", "combine-first", "5.4.2.1", "a place that was heard keeps its first value",
         "add what comes later", combined=pairwise(lambda old, new: old or new))
 mistake("combining", "combine-signs", "5.4.2.1", "hard decisions are added up", "add the values themselves",
@@ -52,8 +51,7 @@ mistake("combining", "combine-halves", "5.4.2.1", "sums are halved and rounded d
         "a value of +1 and an erased one make 0, of -1 and an erased one -1: round to 0, or keep more bits",
         combined=pairwise(lambda old, new: (old + new) >> 1))
 mistake("combining", "codeblocks-wiped", "5.4.2.1", "code blocks that are not scheduled lose what they had",
-        "leave their soft values as they are",
-        kept=lambda _self, _right, had, length: had if length else empty(len(had)))
+        "leave their soft values as they are", kept=lambda _self, _right, had, length: had if length else empty(len(had)))
 mistake("processes", "cleared-always", "38.321, 5.3.2.2",
         "each transmission, or each block that fails, clears the soft buffer", "new data alone clears it", clears=lambda *_: True)
 mistake("processes", "cleared-never", "38.321, 5.3.2.2", "a fresh block is added to the one before",
@@ -61,14 +59,12 @@ mistake("processes", "cleared-never", "38.321, 5.3.2.2", "a fresh block is added
 mistake("processes", "cleared-by-rv", "38.321, 5.3.2.2", "rv 0 clears the soft buffer, and nothing else does",
         "clear it by the new data indicator", clears=lambda _self, _right, told, *_: told.rv == 0)
 mistake("processes", "cleared-by-both", "38.321, 5.3.2.2", "a fresh block clears the soft buffer only with rv 0",
-        "clear it by the new data indicator, for each rv",
-        clears=lambda _self, _right, told, *_: told.fresh and told.rv == 0)
+        "clear it by the new data indicator, for each rv", clears=lambda _self, _right, told, *_: told.fresh and told.rv == 0)
 mistake("processes", "process-one", "38.321, 5.3.2.1", "all processes have one soft buffer",
         "a soft buffer for each of 16 processes", process_of=lambda *_: 0)
 mistake("processes", "process-of-eight", "38.321, 5.3.2.1", "process p has the soft buffer of p mod 8",
         "there are up to 16 processes", process_of=lambda _self, _right, told: told.process % 8)
 mistake("processes", "plan-of-last", "38.321, 5.3.2.1", "the sizes are those of the last fresh block of any process",
         "keep the sizes of each process", block_of=of_last)
-mistake("processes", "delivered-sticks", "38.321, 5.3.2.2",
-        "once delivered a process answers the same bits for its next blocks",
+mistake("processes", "delivered-sticks", "38.321, 5.3.2.2", "once delivered a process answers the same bits for its next blocks",
         "forget the block when a fresh one begins", answered=stuck)

@@ -74,8 +74,7 @@ mistake("parting", "sign-inverted", "-", "the sign of a value is taken for the o
         "say by --positive which bit a positive value means, or turn the sign over",
         heard=lambda _self, _right, values: values.translate(INVERTED))
 mistake("parting", "sliced", "-", "values are cut to +1 and -1, an erased one to +1",
-        "keep the strength of a value; 0 is no bit at all",
-        heard=lambda _self, _right, values: values.translate(SLICED))
+        "keep the strength of a value; 0 is no bit at all", heard=lambda _self, _right, values: values.translate(SLICED))
 mistake("parting", "lowest-negated", "-", "the lowest value of 8 bits, -128, is negated to itself",
         "clip to -127 before you negate", heard=lambda _self, _right, values: values.translate(LOWEST_KEPT))
 mistake("places", "fillers-filled", "5.4.2.1", "what arrives goes to the places of fillers too",
@@ -83,23 +82,20 @@ mistake("places", "fillers-filled", "5.4.2.1", "what arrives goes to the places 
 mistake("places", "fillers-unshifted", "5.4.2.1", "the places K' to K of d are passed over as fillers, 2 Zc too far",
         "d begins with bit 2 Zc: its fillers are at K' - 2 Zc to K - 2 Zc",
         skipped=lambda _self, _right, sizes: range(sizes.filled.start + 2 * sizes.z, sizes.filled.stop + 2 * sizes.z))
-mistake("places", "wrapped-to-start", "5.4.2.1", "after the buffer's end it goes on at k0", "go on at place 0",
-        selected=to_start)
+mistake("places", "wrapped-to-start", "5.4.2.1", "after the buffer's end it goes on at k0", "go on at place 0", selected=to_start)
 mistake("places", "not-wrapped", "5.4.2.1", "what goes on at the buffer's begin is dropped",
         "go round the buffer until all E values are used", selected=until_end)
 mistake("places", "first-copy", "5.4.2.1",
         "of a place that arrives twice in a transmission the first value alone counts",
         "add the values of all copies",
         gathered=lambda _self, _right, places, values, size: one_copy(places[::-1], values[: len(places)][::-1], size))
-mistake("places", "last-copy", "5.4.2.1",
-        "of a place that arrives twice in a transmission the last value alone counts", "add the values of all copies",
-        gathered=lambda _self, _right, *given: one_copy(*given))
+mistake("places", "last-copy", "5.4.2.1", "of a place that arrives twice in a transmission the last value alone counts",
+        "add the values of all copies", gathered=lambda _self, _right, *given: one_copy(*given))
 mistake("places", "rv-ignored", "Table 5.4.2.1-2", "each transmission is written from place 0 on",
         "begin at k0 of its rv", start=lambda *_: 0)
 mistake("places", "rv-of-first", "Table 5.4.2.1-2", "a retransmission is written where the first one began",
         "use the rv of each transmission", version=lambda _self, _right, _told, first: first.rv)
-mistake("places", "k0-plus-one-column", "Table 5.4.2.1-2", "k0 is rounded up to a multiple of Zc", "round down",
-        start=rounded_up)
+mistake("places", "k0-plus-one-column", "Table 5.4.2.1-2", "k0 is rounded up to a multiple of Zc", "round down", start=rounded_up)
 mistake("places", "graph-of-transmission", "6.2.2, 7.2.2", "the base graph is chosen by A / G of each transmission",
         "it is chosen by the code rate that the first one is told, once",
         rate=lambda _self, _right, told: max(1, min(2048, 2048 * told.a // told.g)))
