@@ -1,5 +1,5 @@
 """The archive of nr_c, crates/nr_c/out/libnr_c.a, made if it is missing or older than a source; and beside it, of the same sources,
-the one for processors of level x86-64-v3.
+the one for processors of level x86-64-v3. A test asks for one that Rattle's own compiler has built in place of LLVM.
 
 `rt lib` makes it over what `rt lib` and `rt check` keep in the crates' folders out/. `rt ci` keeps nothing there: in a
 new clone `rt lib` would prove the crates below nr_c once more. But each of them then has the library that `rt ci` has
@@ -16,6 +16,7 @@ CRATES = ROOT / "crates"
 ARCHIVE = CRATES / "nr_c" / "out" / "libnr_c.a"
 LEVEL = "x86-64-v3"
 FASTER = ARCHIVE.with_name(f"libnr_c-{LEVEL}.a")
+BY_RATTLE = ARCHIVE.with_name("libnr_c-rattle.a")
 
 
 def kit() -> pathlib.Path:
@@ -42,15 +43,16 @@ def is_of_gate(crates: list[str], written: float) -> bool:
     return is_new and not any((folder / "stamp").exists() for folder, _ in places)
 
 
-def build_over(crates: list[str], named: list[str], archive: pathlib.Path, *level: str) -> None:
-    """Builds an archive over the libraries that `rt ci` or `rt lib` left."""
+def build_over(crates: list[str], named: list[str], archive: pathlib.Path, *level: str, backend: str = "llvm") -> None:
+    """Builds an archive over the libraries that `rt ci` or `rt lib` left. The proofs of nr_c are kept for the next archive."""
     of_kit = kit()
     words: list[str | pathlib.Path] = [of_kit / "bin" / "rattle", "build", "--crate-name", "nr_c", "src/lib.rt", "--crate-type", "staticlib"]
     words += ["-L", f"dependency={of_kit / 'rlibs'}", *[it for name in crates for it in ("-L", f"dependency={library(name)[0]}")]]
     for name in ["std", *named]:
         words += ["--extern", f"{name}={library(name)[1] if name in crates else of_kit / 'rlibs' / f'{name}.rlib'}"]
     words += ["--antt-project", of_kit / "rattle" / "logic" / "antt-project.json", "--logic-built", of_kit / "logic_built"]
-    words += ["--toolchain", of_kit / "toolchain", "--backend", "llvm", "--links", "nr_c=", "--jobs", "2", *level, "-o", archive]
+    words += ["--incremental", archive.with_name("incremental")]
+    words += ["--toolchain", of_kit / "toolchain", "--backend", backend, "--links", "nr_c=", "--jobs", "2", *level, "-o", archive]
     ARCHIVE.parent.mkdir(exist_ok=True)
     subprocess.run(words, cwd=CRATES / "nr_c", stdin=subprocess.DEVNULL, check=True)
 
@@ -65,7 +67,15 @@ def made() -> pathlib.Path:
             build_over(crates, named, ARCHIVE)
         else:
             subprocess.run(["rt", "lib"], cwd=CRATES / "nr_c", stdin=subprocess.DEVNULL, check=True)
-    at_hand = all(library(name)[1].exists() for name in crates)
-    if at_hand and (not FASTER.exists() or FASTER.stat().st_mtime < ARCHIVE.stat().st_mtime):
-        build_over(crates, named, FASTER, "--cpu", LEVEL)
+    made_beside(FASTER, "--cpu", LEVEL)
     return ARCHIVE
+
+
+def made_beside(other: pathlib.Path, *level: str, backend: str = "llvm") -> bool:
+    """Makes another archive of the same sources, if the libraries of the crates below are at hand. Whether it is there."""
+    crates, named = below()
+    is_old = not other.exists() or other.stat().st_mtime < ARCHIVE.stat().st_mtime
+    if is_old and all(library(name)[1].exists() for name in crates):
+        build_over(crates, named, other, *level, backend=backend)
+        is_old = False
+    return not is_old
