@@ -114,6 +114,8 @@ class Names(shared.InFolder):
         self.assertEqual(said["program sha256"], hashlib.sha256(shared.program().read_bytes()).hexdigest())
         self.assertEqual(said["tools"], (shared.ROOT / "VERSION").read_text().strip())
         self.assertIn("specification 3GPP TS 38.212 Release 15\n", output)
+        verdicts = [line.split() for line in output.splitlines() if line.startswith("verdict ")]
+        self.assertEqual([(it[1], len(it) - 3) for it in verdicts if it[2] == "axioms"], [("nr_c", 3), ("linksim", 39)])
 
 
 class Files(shared.InFolder):
