@@ -47,14 +47,13 @@ def sources() -> dict[str, bytes]:
 
 def data() -> dict[str, bytes]:
     """What the wheel puts below share/linksim of the environment: the examples of the tools' help, and which sources it is of. And the
-    verifier of certificates, which is a script by itself and no part of the packages."""
+    verifier of certificates, which elsewhere is a script by itself: an entry point runs wherever the environment is."""
     examples = below(ROOT / "examples", ".csv", ".toml", ".txt", ".py")
     commit, when = nr_version.source()
     of = {"version": nr_version.declared(), **({"commit": commit, "time": when} if commit else {})}
     said = {"built.json": json.dumps(of).encode() + b"\n"}
-    script = (ROOT / "tools" / "verify").read_bytes().replace(b"#!/usr/bin/env python3", b"#!python", 1)
     placed = {f"nr-{version()}.data/data/share/linksim/{name}": octets for name, octets in {**examples, **said}.items()}
-    return {**placed, f"nr-{version()}.data/scripts/linksim-verify": script}
+    return {**placed, "linksim_tools/verify.py": (ROOT / "tools" / "verify").read_bytes()}
 
 
 def glibc_of(octets: bytes) -> tuple[int, int]:
@@ -92,7 +91,8 @@ def about(octets: bytes) -> dict[str, bytes]:
         lines.append(f"Provides-Extra: {extra}")
         lines += [f"Requires-Dist: {it}{' and' if ';' in it else ';'} extra == '{extra}'" for it in wanted]
     lines += ["", said, ""]
-    entries = ["[console_scripts]", *(f"linksim-{tool} = linksim_tools.start:{tool}" for tool in TOOLS), ""]
+    entries = ["[console_scripts]", *(f"linksim-{tool} = linksim_tools.start:{tool}" for tool in TOOLS)]
+    entries += ["linksim-verify = linksim_tools.verify:main", ""]
     marked = "".join(f"Tag: {tag}\n" for tag in tags(octets))
     wheel = f"Wheel-Version: 1.0\nGenerator: nr_build\nRoot-Is-Purelib: false\n{marked}"
     texts = {"METADATA": "\n".join(lines), "WHEEL": wheel, "entry_points.txt": "\n".join(entries)}
@@ -124,9 +124,7 @@ def build_wheel(
     with zipfile.ZipFile(pathlib.Path(wheel_directory) / name, "w") as wheel:
         for path, octets in files.items():
             member = zipfile.ZipInfo(path, when)
-            # (old versions of pip take over the mode of a script)
-            mode = 0o100755 if ".data/scripts/" in path else 0o100644
-            member.external_attr, member.compress_type, member.create_system = mode << 16, zipfile.ZIP_DEFLATED, 3
+            member.external_attr, member.compress_type, member.create_system = 0o100644 << 16, zipfile.ZIP_DEFLATED, 3
             wheel.writestr(member, octets)
     return name
 
