@@ -104,19 +104,18 @@ def awgn(table: nr.Table, decoder: Decoder, a: int, txs: list[nr.Tx], decibels: 
         heard += draw.normal(0, (noise / 2) ** 0.5, heard.shape)
         np.add.at(soft.T, nr.places(a, tx, rate=rate), (4 * 0.5**0.5 / noise * heard).T)
         bits, good = decoder.decode(soft)
-        wrong = (bits[:, :a] != np.unpackbits(octets, axis=1)).any(axis=1) | ~good
-        rates.append(float(wrong.mean()))
+        rates.append(float(((bits[:, :a] != np.unpackbits(octets, axis=1)).any(axis=1) | ~good).mean()))
     return rates
 
 
-def plot(table: nr.Table, path: str, blocks: int = 100) -> None:
+def plot(table: nr.Table, path: str, blocks: int) -> None:
     """Draws block error rates over AWGN beside those over erasures: 1,000 bits at the code rate 0.75, sent twice."""
     import matplotlib.pyplot as pyplot
 
-    pyplot.rcParams["svg.hashsalt"] = "nr"
+    pyplot.rcParams.update({"svg.hashsalt": "nr", "svg.fonttype": "none"})
     a, txs = 1000, [nr.Tx(1336, rv=rv, qm=2) for rv in (0, 2)]
     decoder = Decoder(table, nr.plan(a, rate=0.75))
-    ratios, chances = np.arange(-2.5, 5.1, 0.5), np.arange(0.12, 0.66, 0.02)
+    ratios, chances = np.r_[-2:1.1:0.25, 3:5.4:0.25], np.arange(0.12, 0.66, 0.02)
     curves = [
         (ratios, "Es/N0 in dB, QPSK over AWGN", [awgn(table, decoder, a, txs, it, blocks) for it in ratios]),
         (chances, "erased places", [nr.simulate(table, a, txs, p=it, rounds=16 * blocks, rate=0.75).rates for it in chances]),
@@ -135,10 +134,11 @@ def main() -> None:
     parser = argparse.ArgumentParser()
     parser.add_argument("table", nargs="?", help="a shift table; without it the practice table")
     parser.add_argument("--plot", metavar="FILE", help="draw the curves into a file")
+    parser.add_argument("--blocks", type=int, default=100, help="how many blocks each point of the noisy curves has")
     words = parser.parse_args()
     table = nr.Table.open(words.table) if words.table else nr.Table.practice()
     if words.plot:
-        return plot(table, words.plot)
+        return plot(table, words.plot, words.blocks)
     receiver = Receiver(table)
     for it in map(json.loads, sys.stdin):
         if "reset" in it:
