@@ -15,7 +15,6 @@ import shared
 from linksim_tools.conform import bits, files
 from linksim_tools.conform.encoder import answers as answering
 from linksim_tools.conform.encoder import report as reporting
-from linksim_tools.conform.bits import PACKINGS
 from linksim_tools.conform.steps import STEPS
 
 
@@ -88,11 +87,9 @@ class Right(Checked):
     def test_forms(self) -> None:
         name = "mask-hole"
         right = conform_shared.suite().values[name]
-        for form in PACKINGS:
+        for form in bits.PACKINGS:
             packed = functools.partial(files.packed, form)
-            value: dict[str, typing.Any] = {
-                "id": name, "attached": packed(right.attached), "sent": packed(right.sent)
-            }
+            value: dict[str, typing.Any] = {"id": name, "attached": packed(right.attached), "sent": packed(right.sent)}
             value |= {it: [packed(part) for part in getattr(right, it)] for it in ("bits", "e", "f")}
             value |= {"E": right.E, "d": right.d}
             with self.subTest(form):
@@ -119,7 +116,6 @@ class Right(Checked):
         made = json.loads(output)
         self.assertEqual((made["first"], made["diagnosis"], made["steps"]["ldpc"]["fail"]), (None, [], 0))
         self.assertIn("all that was answered agrees", page.read_text())
-
 
     def test_coverage(self) -> None:
         """A file of the points that were covered, with how many cases of each fail."""
@@ -155,8 +151,7 @@ class Right(Checked):
         status, output, _ = conform_shared.conform("check", conform_shared.few_path(), path)
         self.assertEqual((status, output.splitlines()[-1]), (0, "all that was answered agrees"))
         for name, wanted in (("k0", 0), ("Ncb", 1), ("sent", 1)):
-            words = ["check", conform_shared.few_path(), path, "--require", f"k0,{name}"]
-            status, output, _ = conform_shared.conform(*words)
+            status, output, _ = conform_shared.conform("check", conform_shared.few_path(), path, "--require", f"k0,{name}")
             self.assertEqual((status, f"\n{name} is required, and 9 of 9 cases lack it\n" in output), (wanted, wanted == 1))
 
     def test_own_input(self) -> None:
