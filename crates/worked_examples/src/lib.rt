@@ -64,4 +64,6 @@ mod table_sources;
 #[cfg(test)]
 mod transport_blocks;
 #[cfg(test)]
+mod visit_counts;
+#[cfg(test)]
 mod words_of_all_sizes;

@@ -3,6 +3,7 @@
 
 use crate::peeled_words::is_shown;
 use crate::practice::{few_bits_of, on_one_layer, practice};
+use crate::visit_counts::visits;
 use nr_bitvec::Bits;
 use nr_blockdesk::{DeskFault, Heard, Outcome, Receiver, Sender, Settings, Tx};
 use nr_shifttable::Table;
@@ -138,7 +139,7 @@ pub(crate) fn left_of(receiver: &Receiver<'_>) -> (u32, u64) {
     if receiver.plan().c == 0 {
         return (0, 0);
     }
-    (receiver.left(0), receiver.peeler(0).touches())
+    (receiver.left(0), visits(receiver.peeler(0)))
 }
 
 /// The sender of a block.
