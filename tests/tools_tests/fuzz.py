@@ -27,10 +27,10 @@ from linksim_tools.conform import code, files
 from linksim_tools.conform.encoder import commands as encoders
 from linksim_tools.conform.encoder import suite as own
 from linksim_tools.conform.receiver import commands as receivers
-from linksim_tools.conform.receiver import judged, keeping, steps, writing
+from linksim_tools.conform.receiver import known_answers, keeping, steps, writing
 from linksim_tools.conform.receiver.mistakes import MISTAKES
 from linksim_tools.conform.receiver.suite import Kept
-from linksim_tools.conform.receiver.told import Arrival, Case
+from linksim_tools.conform.receiver.reception import Arrival, Case
 from linksim_tools.curve import commands as curves
 from linksim_tools.curve import setting, status
 from linksim_tools.outcome import records
@@ -146,7 +146,7 @@ def receiver_suite(path: pathlib.Path) -> list[str]:
     for values in ("+" * 96, "+0" * 48, "0" * 96, "+" * 96, "q" * 96, "+-" * 48, "+" * 96, "h" * 96, "0+" * 48):
         told = [Arrival(24, 512, None, 0, 96, 2)]
         case = Case(f"case-{len(lines)}", "decoder", "zeros", told, [values], ["0" * 24])
-        found = judged.everyone(tables, [*list(MISTAKES)[:3]], case)
+        found = known_answers.everyone(tables, [*list(MISTAKES)[:3]], case)
         right, clash = found.pop("")
         lines.append(writing.line_of(Kept(case, right, ("open",), found, keeping.also(tables, case, right), clash)))
     head = {"receiver": files.FORMAT, "profile": "quick", "seed": 1, "made": {}, "table": code.records_of(entries)}

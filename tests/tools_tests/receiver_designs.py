@@ -5,7 +5,7 @@ from __future__ import annotations
 from linksim_tools.conform.receiver import elimination, keeping, steps
 from linksim_tools.conform.receiver.chain import Decoded, Process, Receiver
 from linksim_tools.conform.receiver.level import MODEL, Level
-from linksim_tools.conform.receiver.told import Arrival, translated
+from linksim_tools.conform.receiver.reception import Arrival, translated
 
 SIGNS = translated(lambda value: (value > 0) - (value < 0))
 

@@ -14,12 +14,12 @@ import typing
 import conform_shared
 import shared
 from linksim_tools.conform.receiver import answers as answering
-from linksim_tools.conform.receiver import judged, report, run, verdicts
+from linksim_tools.conform.receiver import known_answers, report, run, verdicts
 from linksim_tools.conform.receiver import suite as suites
 from linksim_tools.conform.receiver.diagnosis import Diagnosis
 from linksim_tools.conform.receiver.level import MODEL, Level
 from linksim_tools.conform.receiver.mistakes import receiver_with
-from linksim_tools.conform.receiver.seen import Seen
+from linksim_tools.conform.receiver.evidence import Seen
 
 if typing.TYPE_CHECKING:
     from linksim_tools.conform.receiver.chain import Receiver
@@ -117,7 +117,7 @@ def answers_of_kind(kind: type[Receiver], every_level: bool = False, level: Leve
     """What such a receiver of the model answers to the suite, its blocks and which code blocks passed or all that it has."""
     found: answering.Answers = {}
     for name, kept in suite().cases.items():
-        answers = judged.taken(kind(suite().tables), kept.case, level)
+        answers = known_answers.taken(kind(suite().tables), kept.case, level)
         found[name] = [it if every_level else dataclasses.replace(it, info=None, soft=None) for it in answers]
     return found
 
@@ -125,7 +125,7 @@ def answers_of_kind(kind: type[Receiver], every_level: bool = False, level: Leve
 def answers_of_model(of: suites.Suite, *mistakes: str) -> answering.Answers:
     """What the model's receiver with these mistakes answers to a suite."""
     kind = receiver_with(frozenset(mistakes))
-    return {name: [*judged.taken(kind(of.tables), kept.case)] for name, kept in of.cases.items()}
+    return {name: [*known_answers.taken(kind(of.tables), kept.case)] for name, kept in of.cases.items()}
 
 
 def of_model(mistake: str, levels: int = 1) -> Diagnosis:

@@ -23,7 +23,7 @@ from linksim_tools.conform.encoder.judging import Trials
 from linksim_tools.conform.steps import FIELDS, STEPS
 
 if typing.TYPE_CHECKING:
-    from linksim_tools.conform.encoder.found import Found
+    from linksim_tools.conform.encoder.finding import Found
     from linksim_tools.conform.encoder.report import Report
 
 # These differ in the number Kb that they say, and in no bit.

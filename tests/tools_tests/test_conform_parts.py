@@ -11,7 +11,7 @@ import report_pages
 from linksim_tools.conform.case import Case
 from linksim_tools.conform.clauses import Clauses
 from linksim_tools.conform.code import rotated
-from linksim_tools.conform.encoder import design, page, points, polynomials, shifted
+from linksim_tools.conform.encoder import design, page, points, polynomials, displacement
 from linksim_tools.conform.encoder import report as reporting
 from linksim_tools.conform.conditions import Common
 from linksim_tools.conform.encoder.mistakes import MISTAKES, clauses_of
@@ -104,26 +104,26 @@ class Shifts(unittest.TestCase):
 
     def test_missing(self) -> None:
         found = self.RIGHT[:64] + self.RIGHT[80:]
-        line, = shifted.lines(found, self.RIGHT, [])
+        line, = displacement.lines(found, self.RIGHT, [])
         self.assertRegex(line, r"^16 bits are missing from bit 6\d( to 6\d)? on; the next 11\d bits agree$")
 
     def test_too_many(self) -> None:
         found = self.RIGHT[:65] + self.RIGHT[64:]
-        line, = shifted.lines(found, self.RIGHT, [])
+        line, = displacement.lines(found, self.RIGHT, [])
         self.assertRegex(line, r"^1 bit is too many from bit 6\d( to 6\d)? on; ")
 
     def test_of_another_code_block(self) -> None:
         other = self.RIGHT[::-1]
-        line, = shifted.lines(other, self.RIGHT, [("code block r = 1", other)])
+        line, = displacement.lines(other, self.RIGHT, [("code block r = 1", other)])
         self.assertEqual(line, "the bits from bit 2 on are those of code block r = 1 from bit 2 on")
 
     def test_last_octet(self) -> None:
         right = self.RIGHT[:189]
         found = right[:-1] + "10"[int(right[-1])]
-        self.assertEqual(shifted.lines(found, right, []), ["only the last octet differs, which has 5 bits"])
+        self.assertEqual(displacement.lines(found, right, []), ["only the last octet differs, which has 5 bits"])
 
     def test_a_single_bit(self) -> None:
-        self.assertEqual(shifted.lines("10"[int(self.RIGHT[0])] + self.RIGHT[1:], self.RIGHT, []), [])
+        self.assertEqual(displacement.lines("10"[int(self.RIGHT[0])] + self.RIGHT[1:], self.RIGHT, []), [])
 
     def test_rotated(self) -> None:
         self.assertEqual(rotated(0b10010, 1, 5), 0b00101)

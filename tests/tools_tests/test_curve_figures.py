@@ -13,7 +13,7 @@ import curve_files
 import shared
 from curve_files import numpy
 from linksim_tools.common.program import Failed
-from linksim_tools.curve import harq, making, pool, results, run, theory, traced
+from linksim_tools.curve import harq, making, pool, results, run, theory, trace
 from linksim_tools.curve import setting as settings
 from linksim_tools.curve import source as sources
 from test_pool import BITS, WIDE, falling, lost
@@ -146,7 +146,7 @@ class Harq(unittest.TestCase):
         line = results.Line(0.1, 0, 100, 10, (20,), (200,), (200,))
         for burst, are_same in ((None, False), ((0.1, 0.1), True)):
             curve = dataclasses.replace(setting, link="erase" if burst else "flip", burst=burst)
-            rates = traced.Curve(curve, shared.program(), [], [line]).rates()
+            rates = trace.Curve(curve, shared.program(), [], [line]).rates()
             self.assertEqual(rates.code_blocks_at(0.1, 1) == rates.at(0.1, 1), are_same)
             self.assertRaisesRegex(Failed, "no rate is known at 0.09: the points are from 0.1", rates.at, 0.09, 1)
 

@@ -11,13 +11,13 @@ import unittest.mock
 import receiver_mistakes
 import receiver_designs
 import receiver_shared
-from linksim_tools.conform.receiver import judged, ladder, reading, report, steps, tried
+from linksim_tools.conform.receiver import known_answers, ladder, reading, report, steps, trials
 from linksim_tools.conform.receiver.chain import Receiver
 from linksim_tools.conform.receiver.diagnosis import Diagnosis
 from linksim_tools.conform.receiver.level import Level
 from linksim_tools.conform.receiver.mistakes import MISTAKES, OWN, SHARED
-from linksim_tools.conform.receiver.mistakes.listed import STEPS
-from linksim_tools.conform.receiver.told import Answer
+from linksim_tools.conform.receiver.mistakes.catalogue import STEPS
+from linksim_tools.conform.receiver.reception import Answer
 
 # These give the same blocks in every case.
 ALIKE = [{"kb-10", "lifting-by-k"}]
@@ -74,7 +74,7 @@ class InTheModel(unittest.TestCase):
             for name, kept in suite.cases.items():
                 with self.subTest(mistake=mistake, case=name):
                     pairs = zip(answers[name], kept.case.meant, kept.case.arrivals)
-                    words = tuple(judged.shown(answer or judged.NOTHING, meant, told) for answer, meant, told in pairs)
+                    words = tuple(known_answers.shown(answer or known_answers.NOTHING, meant, told) for answer, meant, told in pairs)
                     self.assertTrue(not kept.known or words == kept.answers(mistake)[0])
 
     def test_blocks_alone_are_enough(self) -> None:
@@ -125,8 +125,8 @@ class HeldOut(unittest.TestCase):
     def test_search_is_cut_short(self) -> None:
         """After so much work, and not after so long: what is said is the same on every machine."""
         answers = receiver_shared.answers_of_kind(receiver_mistakes.planted("order-of-qm-4"))
-        for work, is_cut in ((tried.WORK, False), (0, True)):
-            with unittest.mock.patch.object(tried, "WORK", work):
+        for work, is_cut in ((trials.WORK, False), (0, True)):
+            with unittest.mock.patch.object(trials, "WORK", work):
                 found = receiver_shared.reported(answers).diagnosis
             assert found
             self.assertEqual((found.cut_short, bool(found.kinds)), (is_cut, not is_cut))

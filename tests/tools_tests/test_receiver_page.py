@@ -9,7 +9,7 @@ import report_pages
 from linksim_tools.conform import page
 from linksim_tools.conform.receiver import report
 from linksim_tools.conform.receiver.answers import Answers
-from linksim_tools.conform.receiver.mistakes.listed import STEPS
+from linksim_tools.conform.receiver.mistakes.catalogue import STEPS
 from linksim_tools.conform.report import record_of
 
 

@@ -89,9 +89,9 @@ def do_audit(given: argparse.Namespace, setting: settings.Setting, program: path
 
 def do_pool(given: argparse.Namespace, setting: settings.Setting, program: pathlib.Path) -> None:
     """The rates at any points, by the chunks of all."""
-    from linksim_tools.curve import making, pool, traced
+    from linksim_tools.curve import making, pool, trace
 
-    numpy, curve = packages.numpy_for("pool"), traced.curve_of(setting, program, given.files)
+    numpy, curve = packages.numpy_for("pool"), trace.curve_of(setting, program, given.files)
     taken = pool.Pool(setting, making.shape_of(setting), curve.lines, numpy)
     print("p,transmissions,estimate,low,high,low_if,high_if,events,rounds,reached")
     for p in given.at or [line.p for line in taken.points]:
@@ -105,9 +105,9 @@ def do_pool(given: argparse.Namespace, setting: settings.Setting, program: pathl
 def do_report(given: argparse.Namespace, setting: settings.Setting, program: pathlib.Path) -> None:
     """The report as one HTML file."""
     packages.need("report", "matplotlib", "numpy")
-    from linksim_tools.curve import report, traced
+    from linksim_tools.curve import report, trace
 
-    report.write(traced.curve_of(setting, program, given.files), given.html)
+    report.write(trace.curve_of(setting, program, given.files), given.html)
 
 
 def do_limits(given: argparse.Namespace, setting: settings.Setting, program: pathlib.Path) -> None:
@@ -125,24 +125,24 @@ def do_limits(given: argparse.Namespace, setting: settings.Setting, program: pat
 def do_plot(given: argparse.Namespace, setting: settings.Setting, program: pathlib.Path) -> None:
     """The picture of a curve, with what theory says, or of several."""
     packages.need("plot", "matplotlib", "numpy")
-    from linksim_tools.curve import plot, several, told, traced
+    from linksim_tools.curve import plot, several, summary, trace
 
-    curves = traced.curves_of(setting, program, given.files)
+    curves = trace.curves_of(setting, program, given.files)
     if len(curves) > 1:
         several.draw_falls(curves, given.out)
         return
     theories = plot.draw(curves[0], given.out)
     if setting.link == "erase":
-        told.say_theory(curves[0].points(), theories)
-        told.say_audits(curves[0])
+        summary.say_theory(curves[0].points(), theories)
+        summary.say_audits(curves[0])
 
 
 def do_harq(given: argparse.Namespace, setting: settings.Setting, program: pathlib.Path) -> None:
     """What the curve says of HARQ, as CSV; and as a picture, also of several curves."""
     packages.need("harq", *(["matplotlib"] if given.plot else []), "numpy")
-    from linksim_tools.curve import harq, traced
+    from linksim_tools.curve import harq, trace
 
-    curves = traced.curves_of(setting, program, given.files)
+    curves = trace.curves_of(setting, program, given.files)
     if given.plot:
         from linksim_tools.curve import several
 

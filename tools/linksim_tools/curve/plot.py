@@ -14,7 +14,7 @@ if typing.TYPE_CHECKING:
     from linksim_tools.curve.pool import Pool
     from linksim_tools.curve.results import Line
     from linksim_tools.curve.setting import Setting
-    from linksim_tools.curve.traced import Curve
+    from linksim_tools.curve.trace import Curve
 
 # The counting bound: a stroke and two dots.
 BOUND = (0, (6, 1.5, 1, 1.5, 1, 1.5))

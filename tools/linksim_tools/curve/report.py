@@ -21,7 +21,7 @@ if typing.TYPE_CHECKING:
     from linksim_tools.curve.harq import Rates
     from linksim_tools.curve.pool import Estimate
     from linksim_tools.curve.setting import Setting
-    from linksim_tools.curve.traced import Curve
+    from linksim_tools.curve.trace import Curve
 
 STYLE = """
 body { font: 16px/1.45 system-ui, sans-serif; max-width: 62rem; margin: 2rem auto; padding: 0 1rem; color: #1b1f24; }

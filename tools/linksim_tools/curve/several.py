@@ -14,7 +14,7 @@ from linksim_tools.curve.plot import LOWEST
 if typing.TYPE_CHECKING:
     from linksim_tools.curve.harq import Ends, Rates
     from linksim_tools.curve.pool import Estimate
-    from linksim_tools.curve.traced import Curve
+    from linksim_tools.curve.trace import Curve
 
 # Between the least and the greatest point each figure is drawn at this many probabilities more, and halfway between neighbours.
 STEPS = 60

@@ -10,7 +10,7 @@ from linksim_tools.conform.encoder.search import Search
 from linksim_tools.conform.steps import STEPS
 
 if typing.TYPE_CHECKING:
-    from linksim_tools.conform.encoder.found import Found
+    from linksim_tools.conform.encoder.finding import Found
     from linksim_tools.conform.encoder.judging import Mistakes, Trials
     from linksim_tools.conform.encoder.suite import Suite
 

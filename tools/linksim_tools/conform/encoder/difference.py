@@ -9,9 +9,9 @@ from linksim_tools.common.graphs import GRAPHS
 from linksim_tools.conform import bits as lists
 from linksim_tools.conform.case import Plan
 from linksim_tools.conform.clauses import Impossible
-from linksim_tools.conform.encoder import shifted
+from linksim_tools.conform.encoder import displacement
 from linksim_tools.conform.encoder.judging import NOTHING, Trial, same
-from linksim_tools.conform.encoder.shifted import first_place
+from linksim_tools.conform.encoder.displacement import first_place
 from linksim_tools.conform.steps import STEPS
 
 # How many entries of a row are shown.
@@ -149,13 +149,13 @@ class Difference:
         line, place = self.bit(found[r], right[r], f"{name} of code block r = {r}")
         others = [(f"code block r = {it}", other) for it, other in enumerate(right)]
         # A column that is rotated reads as a shift of bits, and is none.
-        more = [] if name == "d" else shifted.lines(found[r], right[r], others)
+        more = [] if name == "d" else displacement.lines(found[r], right[r], others)
         return [line, *(explain(r, place) if place is not None else []), *more]
 
     def of_attached(self, found: str, right: str) -> list[str]:
         line, place = self.bit(found, right, "b, the block with its CRC")
         if place is None:
-            return [line + " (6.2.1, 7.2.1)", *shifted.lines(found, right, [])]
+            return [line + " (6.2.1, 7.2.1)", *displacement.lines(found, right, [])]
         a = self.plan.a
         part = f"bit a_{place} of the block itself" if place < a else f"parity bit p_{place - a} of {len(right) - a}"
         return [f"{line}: {part} (5.1)"]
@@ -227,7 +227,7 @@ class Difference:
 
     def of_sent(self, found: str, right: str) -> list[str]:
         line, place = self.bit(found, right, "the bits sent")
-        more = shifted.lines(found, right, [])
+        more = displacement.lines(found, right, [])
         if place is None:
             return [line + " (5.5)", *more]
         rest = place

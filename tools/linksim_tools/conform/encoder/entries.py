@@ -10,8 +10,8 @@ from linksim_tools.common.graphs import GRAPHS, LARGEST
 from linksim_tools.conform.case import Row, Tables
 from linksim_tools.conform.clauses import Clauses, right
 from linksim_tools.conform.code import Encoder, rotated
-from linksim_tools.conform.encoder.observed import Seen, groups_of
-from linksim_tools.conform.listed import Mistake
+from linksim_tools.conform.encoder.observations import Seen, groups_of
+from linksim_tools.conform.mistake import Mistake
 from linksim_tools.conform.steps import STEPS
 
 if typing.TYPE_CHECKING:

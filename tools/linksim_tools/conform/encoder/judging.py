@@ -13,7 +13,7 @@ from linksim_tools.conform.encoder.mistakes import clauses_of
 from linksim_tools.conform.steps import STEP_OF, STEPS
 
 if typing.TYPE_CHECKING:
-    from linksim_tools.conform.listed import Mistake
+    from linksim_tools.conform.mistake import Mistake
     from linksim_tools.conform.encoder.suite import Suite
 
 # Some mistakes together.

@@ -5,7 +5,7 @@ from __future__ import annotations
 import typing
 
 from linksim_tools.conform.code import rotated
-from linksim_tools.conform.encoder.observed import Seen, seen_in
+from linksim_tools.conform.encoder.observations import Seen, seen_in
 from linksim_tools.conform.steps import STEPS
 
 if typing.TYPE_CHECKING:

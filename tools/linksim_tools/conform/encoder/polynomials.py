@@ -11,8 +11,8 @@ import typing
 from linksim_tools.conform import bits as lists
 from linksim_tools.conform.clauses import Clauses, Impossible
 from linksim_tools.conform.encoder.judging import NOTHING, Made
-from linksim_tools.conform.listed import Mistake
-from linksim_tools.conform.encoder.observed import seen_in
+from linksim_tools.conform.mistake import Mistake
+from linksim_tools.conform.encoder.observations import seen_in
 from linksim_tools.conform.steps import STEPS
 
 if typing.TYPE_CHECKING:

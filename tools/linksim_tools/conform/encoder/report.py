@@ -20,7 +20,7 @@ from linksim_tools.conform.steps import STEPS
 
 if typing.TYPE_CHECKING:
     from linksim_tools.conform.case import Answer
-    from linksim_tools.conform.encoder.found import Found
+    from linksim_tools.conform.encoder.finding import Found
     from linksim_tools.conform.encoder.judging import Mistakes, Trial
     from linksim_tools.conform.encoder.suite import Suite
 

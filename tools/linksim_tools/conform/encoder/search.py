@@ -10,16 +10,16 @@ import typing
 from linksim_tools.conform.clauses import Impossible
 from linksim_tools.conform.encoder import entries, families, places, polynomials
 from linksim_tools.conform.conditions import Common
-from linksim_tools.conform.encoder.found import Fitting, Found
+from linksim_tools.conform.encoder.finding import Fitting, Found
 from linksim_tools.conform.encoder.points import Facts
-from linksim_tools.conform.encoder.told import lines as telling_lines
+from linksim_tools.conform.encoder.hints import lines as telling_lines
 from linksim_tools.conform.encoder.judging import Mistakes, Trial, Trials, length_of
 from linksim_tools.conform.encoder.mistakes import MISTAKES
 from linksim_tools.conform.steps import BITS, FIELDS, STEPS
 
 if typing.TYPE_CHECKING:
     from linksim_tools.conform.encoder.suite import Suite
-    from linksim_tools.conform.listed import Mistake
+    from linksim_tools.conform.mistake import Mistake
 
 # How many failing cases are told of, and how many bits of a case are enough for a search.
 NEAR, INFORMATIVE = 24, 48

@@ -7,12 +7,12 @@ import typing
 
 from linksim_tools.common.program import name_of
 from linksim_tools.conform.case import about
-from linksim_tools.conform.encoder.found import PAIRS
+from linksim_tools.conform.encoder.finding import PAIRS
 from linksim_tools.conform.report import what_gives
 from linksim_tools.conform.steps import STEPS
 
 if typing.TYPE_CHECKING:
-    from linksim_tools.conform.encoder.found import Fitting, Found
+    from linksim_tools.conform.encoder.finding import Fitting, Found
     from linksim_tools.conform.encoder.report import Report
     from linksim_tools.conform.encoder.suite import Suite
 

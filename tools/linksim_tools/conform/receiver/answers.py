@@ -10,7 +10,7 @@ from linksim_tools.conform import bits as lists
 from linksim_tools.conform.answer_lines import Repeated, Wrong, object_of, pairs_of, taken_from
 from linksim_tools.conform.files import Object
 from linksim_tools.conform.receiver import steps
-from linksim_tools.conform.receiver.told import UNSUPPORTED, Answer
+from linksim_tools.conform.receiver.reception import UNSUPPORTED, Answer
 
 if typing.TYPE_CHECKING:
     from linksim_tools.conform.receiver.suite import Suite

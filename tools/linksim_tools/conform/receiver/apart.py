@@ -4,12 +4,12 @@ from __future__ import annotations
 
 import typing
 
-from linksim_tools.conform.receiver import judged, plain
+from linksim_tools.conform.receiver import known_answers, plain
 from linksim_tools.conform.receiver.mistakes import MISTAKES
-from linksim_tools.conform.receiver.told import LONG, Case
+from linksim_tools.conform.receiver.reception import LONG, Case
 
 if typing.TYPE_CHECKING:
-    from linksim_tools.conform.receiver.made import Maker
+    from linksim_tools.conform.receiver.blocks import Maker
 
 # What all receivers answer to a case, by the mistake; that of a right one under the empty name.
 Found = typing.Dict[str, typing.Tuple[typing.Tuple[typing.Tuple[str, ...], ...], bool]]
@@ -48,7 +48,7 @@ def telling(make: Maker, names: list[str], there: set[str]) -> Case | None:
     """The first pattern that tells some of these apart."""
     for _, case in zip(range(TRIES), patterns(make)):
         if case.id not in there and case.size <= LONG:
-            found = judged.everyone(make.tables, [name for name in names if name], case)
+            found = known_answers.everyone(make.tables, [name for name in names if name], case)
             if len({blocks(found, name) for name in names}) > 1:
                 return case
     return None
@@ -66,4 +66,4 @@ def sharper(make: Maker, cases: list[Case], all_found: list[Found], most: int) -
             given_up.add(tuple(names))
         else:
             cases.append(case)
-            all_found.append(judged.everyone(make.tables, MISTAKES, case))
+            all_found.append(known_answers.everyone(make.tables, MISTAKES, case))

@@ -9,7 +9,7 @@ import typing
 
 from linksim_tools.conform.receiver import peeling, steps
 from linksim_tools.conform.receiver.soft import Soft, digits, empty, gathered, known_and_ones, part_of_signs, summed
-from linksim_tools.conform.receiver.told import Answer, Arrival
+from linksim_tools.conform.receiver.reception import Answer, Arrival
 
 # What stands for the sum of a digit and twice another.
 BITS = bytes.maketrans(bytes(range(0x90, 0x94)), b"??01")

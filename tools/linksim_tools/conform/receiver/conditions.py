@@ -9,7 +9,7 @@ import typing
 from linksim_tools.conform.case import Case
 from linksim_tools.conform.conditions import Common, Condition
 from linksim_tools.conform.encoder.points import Facts
-from linksim_tools.conform.receiver import judged, peeling
+from linksim_tools.conform.receiver import known_answers, peeling
 from linksim_tools.conform.receiver.chain import Receiver
 from linksim_tools.conform.receiver.level import octets_of
 from linksim_tools.conform.receiver.soft import known_and_ones
@@ -19,7 +19,7 @@ if typing.TYPE_CHECKING:
     from linksim_tools.conform.receiver.soft import Soft
     from linksim_tools.conform.receiver.steps import Tables
     from linksim_tools.conform.receiver.suite import Kept, Suite
-    from linksim_tools.conform.receiver.told import Arrival
+    from linksim_tools.conform.receiver.reception import Arrival
 
 # A condition is told from so many other cases, and so many rows at most are told together.
 AGAINST, MOST_ROWS = 8, 3
@@ -70,7 +70,7 @@ def needed(of: Diagnosis, kept: Kept, wanted: typing.Collection[str] | None = No
     for told, values, right in zip(kept.case.arrivals, kept.case.values, kept.right):
         receiver.take(told, octets_of(values))
         sizes = receiver.sizes(told, told)
-        for soft, peeled, given in peeled_of(receiver, told) if right[0] == judged.MEANT else ():
+        for soft, peeled, given in peeled_of(receiver, told) if right[0] == known_answers.MEANT else ():
             for number, does in itertools.product(candidates(peeled, given), (NEEDED, "decides a bit")):
                 words = f"row {number} of base graph {sizes.graph} {does}"
                 if words not in found and (wanted is None or words in wanted):
@@ -148,10 +148,10 @@ def wrong_of(of: Diagnosis) -> tuple[str, dict[str, bool]]:
     empty: dict[str, bool] = {}
     for name in of.judged:
         pairs = [(right[0], word[0]) for right, word in zip(of.suite.cases[name].right, of.words[name]) if word is not None]
-        if any(right == judged.MEANT for right, _ in pairs):
-            due[name] = any(right == judged.MEANT != word for right, word in pairs)
-        if any(right == judged.NONE for right, _ in pairs):
-            empty[name] = of.fails(name) and any(right == judged.NONE != word for right, word in pairs)
+        if any(right == known_answers.MEANT for right, _ in pairs):
+            due[name] = any(right == known_answers.MEANT != word for right, word in pairs)
+        if any(right == known_answers.NONE for right, _ in pairs):
+            empty[name] = of.fails(name) and any(right == known_answers.NONE != word for right, word in pairs)
     if any(due.values()) and any(empty.values()):
         return "", {}
     return (LOST, due) if any(due.values()) else ("a block is delivered that is not there", empty)

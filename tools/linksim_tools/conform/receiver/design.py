@@ -11,8 +11,8 @@ from linksim_tools.conform.encoder.points import first_sizes
 from linksim_tools.conform.receiver import mirrors, peeling, plain, rows, special, steps
 from linksim_tools.conform.receiver.chain import Receiver
 from linksim_tools.conform.receiver.level import octets_of
-from linksim_tools.conform.receiver.made import Maker, sized
-from linksim_tools.conform.receiver.told import Case
+from linksim_tools.conform.receiver.blocks import Maker, sized
+from linksim_tools.conform.receiver.reception import Case
 
 Item = typing.TypeVar("Item")
 

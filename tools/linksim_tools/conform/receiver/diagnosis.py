@@ -6,16 +6,16 @@ from __future__ import annotations
 import dataclasses
 import typing
 
-from linksim_tools.conform.receiver import elimination, judged, steps
+from linksim_tools.conform.receiver import elimination, known_answers, steps
 
 if typing.TYPE_CHECKING:
     from linksim_tools.conform.receiver.answers import Answers
     from linksim_tools.conform.receiver.chain import Receiver
-    from linksim_tools.conform.receiver.judged import Shown
+    from linksim_tools.conform.receiver.known_answers import Shown
     from linksim_tools.conform.receiver.suite import Suite
-    from linksim_tools.conform.receiver.told import Answer, Arrival
+    from linksim_tools.conform.receiver.reception import Answer, Arrival
 
-LEVELS = range(len(judged.LEVELS))
+LEVELS = range(len(known_answers.LEVELS))
 
 # What an answer costs that a mistake does not give: if it contradicts itself, receivers differ.
 SURE, CLASH = 10, 1
@@ -31,7 +31,7 @@ def words_of(answer: Answer | None, meant: str, told: Arrival) -> tuple[str | No
     the CRC of the block fails."""
     if answer is None:
         return None
-    shown = judged.shown(answer, meant, told)
+    shown = known_answers.shown(answer, meant, told)
     says = answer.passed != "0" or answer.delivered is not None or steps.sizes(told.a, told.rate2048, steps.RIGHT).c > 1
     there = (True, answer.passed is not None and says, answer.info is not None, answer.soft is not None)
     return tuple(word if given else None for word, given in zip(shown, there))
@@ -76,9 +76,9 @@ class Diagnosis:
         for told, word, right, also, is_more in zip(kept.case.arrivals, words, kept.right, found, more):
             if told.fresh:
                 delivered.discard(told.process)
-            if word and (is_more or told.process in delivered and word[0] in (judged.NONE, judged.MEANT)):
-                also.append((word[0] or judged.NONE, word[1] or right[1]))
-            if right[0] == judged.MEANT or is_more and word and word[0] != judged.NONE:
+            if word and (is_more or told.process in delivered and word[0] in (known_answers.NONE, known_answers.MEANT)):
+                also.append((word[0] or known_answers.NONE, word[1] or right[1]))
+            if right[0] == known_answers.MEANT or is_more and word and word[0] != known_answers.NONE:
                 delivered.add(told.process)
         if any(more):
             self.more.append(name)
@@ -91,7 +91,7 @@ class Diagnosis:
 
     def is_doubt(self, name: str) -> bool:
         """Whether a case is one that a right receiver may fail."""
-        return self.suite.cases[name].case.step not in judged.STEPS_OF_CHAIN
+        return self.suite.cases[name].case.step not in known_answers.STEPS_OF_CHAIN
 
     def levels(self, clash: bool) -> tuple[int, ...]:
         """The levels at which a case is judged: what contradicts itself is judged by blocks alone."""
@@ -116,11 +116,11 @@ class Diagnosis:
         """Whether such a receiver gives what was answered to a case. It is not asked on after another block."""
         receiver, kept, words = made(self.suite.tables), self.suite.cases[name], self.words[name]
         answers = []
-        for answer, meant, word, also in zip(judged.taken(receiver, kept.case), kept.case.meant, words, self.also[name]):
+        for answer, meant, word, also in zip(known_answers.taken(receiver, kept.case), kept.case.meant, words, self.also[name]):
             answers.append(answer)
-            if not agrees_once((judged.block(answer, meant),), word, (0,), also):
+            if not agrees_once((known_answers.block(answer, meant),), word, (0,), also):
                 return False
-        shown = tuple(map(judged.shown, answers, kept.case.meant, kept.case.arrivals))
+        shown = tuple(map(known_answers.shown, answers, kept.case.meant, kept.case.arrivals))
         return self.agrees(shown, name, self.levels(receiver.clash))
 
     def is_whole(self, name: str) -> bool:
@@ -161,7 +161,7 @@ class Diagnosis:
                 answers, clash = self.suite.cases[name].answers(mistake)
                 sure = not clash and not (mistake in UNSURE and level < LEVELS[-1])
                 if sure and self.agrees(answers, name) and not self.agrees(answers, name, [level]):
-                    return judged.LEVELS[level], name
+                    return known_answers.LEVELS[level], name
         return None
 
     def shows(self, mistake: str) -> bool:
@@ -174,26 +174,26 @@ class Diagnosis:
                 if word is None or word[0] != wrong[0]:
                     continue
                 told = [level for level in LEVELS if word[level] == wrong[level] != right[level]]
-                if 3 in told or 2 in told or 0 in told and wrong[0] != judged.NONE or 1 in told and "1" in wrong[1]:
+                if 3 in told or 2 in told or 0 in told and wrong[0] != known_answers.NONE or 1 in told and "1" in wrong[1]:
                     return True
         return False
 
     def due(self) -> list[str | None]:
         """What is delivered of each block that is due."""
         return [word[0] for name in self.judged for right, word in zip(self.suite.cases[name].right, self.words[name])
-                if word is not None and right[0] == judged.MEANT]
+                if word is not None and right[0] == known_answers.MEANT]
 
     def delivers(self, mirror: str) -> bool:
         """Whether a mirror is delivered as a receiver with its mistake does."""
         kept = self.suite.cases[mirror]
         pairs = zip(kept.answers(kept.case.mirror)[0], kept.right, self.words[mirror])
-        return any(word is not None and word[0] == wrong[0] != right[0] and wrong[0] != judged.NONE for wrong, right, word in pairs)
+        return any(word is not None and word[0] == wrong[0] != right[0] and wrong[0] != known_answers.NONE for wrong, right, word in pairs)
 
     def tells(self, failing: list[str]) -> bool:
         """Whether these cases show more than losses: a wrong block, or information bits or soft values that are not right."""
         for name in failing:
             for right, word in zip(self.suite.cases[name].right, self.words[name]):
-                if word is not None and (word[0] not in (judged.NONE, right[0]) or word[2] is not None or word[3] is not None):
+                if word is not None and (word[0] not in (known_answers.NONE, right[0]) or word[2] is not None or word[3] is not None):
                     return True
         return False
 
@@ -203,7 +203,7 @@ class Diagnosis:
             answered = any(word[level] is not None for words in self.words.values() for word in words if word is not None)
             for kept in self.suite.cases.values() if not answered else ():
                 if len({tuple(it[level] for it in kept.answers(name)[0]) for name in names}) > 1:
-                    return judged.LEVELS[level]
+                    return known_answers.LEVELS[level]
         return None
 
 
@@ -223,8 +223,8 @@ def iterations(of: Diagnosis) -> Iterations | None:
     depths: list[tuple[tuple[int, int], bool]] = []
     for name, words in of.words.items():
         kept = of.suite.cases[name]
-        if kept.case.rounds and words[-1] is not None and kept.right[-1][0] == judged.MEANT and not of.is_doubt(name):
-            depths.append((kept.case.rounds, words[-1][0] == judged.MEANT))
+        if kept.case.rounds and words[-1] is not None and kept.right[-1][0] == known_answers.MEANT and not of.is_doubt(name):
+            depths.append((kept.case.rounds, words[-1][0] == known_answers.MEANT))
     there = [depth for depth, good in depths if good]
     lacking = [depth for depth, good in depths if not good]
     if not there:

@@ -4,7 +4,7 @@ from __future__ import annotations
 
 import typing
 
-from linksim_tools.conform.receiver import judged
+from linksim_tools.conform.receiver import known_answers
 
 if typing.TYPE_CHECKING:
     from linksim_tools.conform.receiver.diagnosis import Diagnosis
@@ -29,7 +29,7 @@ def only_not_delivered(of: Diagnosis, failing: list[str]) -> bool:
     """Whether all failing cases hand up nothing if a block is right, and no wrong block."""
     for name in failing:
         for right, word in zip(of.suite.cases[name].right, of.words[name]):
-            if word is not None and word[0] != right[0] and word[0] != judged.NONE:
+            if word is not None and word[0] != right[0] and word[0] != known_answers.NONE:
                 return False
     return True
 
@@ -42,7 +42,7 @@ def strengths(of: Diagnosis) -> list[str]:
 def of_values(of: Diagnosis, failing: list[str], characters: str) -> bool:
     """Whether the cases with such values alone fail, and all in which a block is due."""
     having = {name for name in of.judged if of.suite.cases[name].case.has(characters)}
-    due = {name for name in having if of.suite.cases[name].right[-1][0] == judged.MEANT}
+    due = {name for name in having if of.suite.cases[name].right[-1][0] == known_answers.MEANT}
     return due <= set(failing) <= having
 
 
@@ -52,7 +52,7 @@ def of_depth(of: Diagnosis, failing: list[str]) -> str | None:
     if not failing or not only_not_delivered(of, failing):
         return None
     there = [kept.case.rounds for name, kept in of.suite.cases.items() if name in of.words and not of.fails(name)
-             and kept.case.rounds and kept.right[-1][0] == judged.MEANT and not of.is_doubt(name)]
+             and kept.case.rounds and kept.right[-1][0] == known_answers.MEANT and not of.is_doubt(name)]
     lacking = [of.suite.cases[name].case.rounds for name in failing]
     for way, words in enumerate(("rounds of flooding", "passes over layers")):
         least = min(it[way] if it else 0 for it in lacking)

@@ -10,7 +10,7 @@ import random
 import typing
 
 from linksim_tools.conform.receiver import peeling, steps
-from linksim_tools.conform.receiver.told import Arrival
+from linksim_tools.conform.receiver.reception import Arrival
 
 if typing.TYPE_CHECKING:
     from linksim_tools.conform.receiver.chain import Receiver

@@ -13,7 +13,7 @@ from linksim_tools.conform.receiver.level import octets_of
 if typing.TYPE_CHECKING:
     from linksim_tools.conform.receiver.soft import Soft
     from linksim_tools.conform.receiver.steps import Sizes, Tables
-    from linksim_tools.conform.receiver.told import Answer, Arrival, Case
+    from linksim_tools.conform.receiver.reception import Answer, Arrival, Case
 
 # With more unknown bits than these nothing is asked: the pattern is no one's that decodes more.
 MOST = 12_000

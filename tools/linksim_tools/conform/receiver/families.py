@@ -12,13 +12,13 @@ from linksim_tools.conform.encoder import mistakes as encoders
 from linksim_tools.conform.encoder.families import limits, numbers
 from linksim_tools.conform.encoder.families import rows as of_tables
 from linksim_tools.conform.encoder.families.orders import SYMBOLS
-from linksim_tools.conform.listed import Method, Mistake, replacing
-from linksim_tools.conform.receiver import judged, steps
+from linksim_tools.conform.mistake import Method, Mistake, replacing
+from linksim_tools.conform.receiver import known_answers, steps
 from linksim_tools.conform.receiver.chain import Process, Receiver
 from linksim_tools.conform.receiver.mistakes import SHARED, STEP_OF
 from linksim_tools.conform.receiver.soft import Soft
 from linksim_tools.conform.receiver.steps import Places, Sizes
-from linksim_tools.conform.receiver.told import Arrival, translated
+from linksim_tools.conform.receiver.reception import Arrival, translated
 
 if typing.TYPE_CHECKING:
     from linksim_tools.conform.receiver.diagnosis import Diagnosis
@@ -51,7 +51,7 @@ def numbers_of(of: Diagnosis, told: Arrival, wrong: steps.Wrong) -> typing.Any:
         ncb = steps.buffer_length(sizes, length, told.lbrm, len(told.scheduled(sizes.c)), wrong)
         places = steps.start(sizes, ncb, told.rv, wrong), steps.lengths(sizes, told, wrong)
         return sizes, ncb, places, of.suite.tables.rows(sizes, wrong).rows
-    except judged.FAULTS:
+    except known_answers.FAULTS:
         return None
 
 

@@ -5,10 +5,10 @@ from __future__ import annotations
 
 import typing
 
-from linksim_tools.conform.receiver import judged, steps
+from linksim_tools.conform.receiver import known_answers, steps
 from linksim_tools.conform.receiver.chain import Decoded, Process, Receiver
 from linksim_tools.conform.receiver.level import octets_of
-from linksim_tools.conform.receiver.told import Arrival, Case
+from linksim_tools.conform.receiver.reception import Arrival, Case
 
 # For each transmission of a case what is accepted too: the block, and which code blocks passed.
 Also = typing.Tuple[typing.Tuple[typing.Tuple[str, str], ...], ...]
@@ -34,14 +34,14 @@ class CodeBlocks(Block):
         return [process.passed.get(r, it) for r, it in enumerate(found)]
 
 
-def also(tables: steps.Tables, case: Case, right: judged.Shown) -> Also:
+def also(tables: steps.Tables, case: Case, right: known_answers.Shown) -> Also:
     """What receivers that keep something answer to a case, as far as it is not what a right one answers."""
     found: list[dict[tuple[str, str], None]] = [{} for _ in case.arrivals]
     for kind in (Block, CodeBlocks):
         receiver = kind(tables)
         for accepted, told, values, meant in zip(found, case.arrivals, case.values, case.meant):
-            block, passed, *_ = judged.shown(receiver.take(told, octets_of(values)), meant, told)
+            block, passed, *_ = known_answers.shown(receiver.take(told, octets_of(values)), meant, told)
             accepted[block, passed] = None
-            if block == judged.MEANT:
+            if block == known_answers.MEANT:
                 accepted[block, "1" * len(passed)] = None
     return tuple(tuple(it for it in accepted if it != words[:2]) for accepted, words in zip(found, right))

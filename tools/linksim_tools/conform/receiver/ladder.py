@@ -4,7 +4,7 @@ from __future__ import annotations
 
 import typing
 
-from linksim_tools.conform.receiver import judged
+from linksim_tools.conform.receiver import known_answers
 from linksim_tools.conform.receiver.chain import Receiver
 from linksim_tools.conform.receiver.diagnosis import Diagnosis
 from linksim_tools.conform.receiver.level import Level, octets_of
@@ -59,7 +59,7 @@ def lines(suite: Suite, failing: dict[Level, list[str]], whole: typing.Collectio
         more = sorted(some - others, key=[*suite.cases].index)
         if more and not others - some:
             first = next(it.strong for it in ordered if set(more) & set(failing[it]))
-            due = [name for name in more if judged.MEANT in {it[0] for it in suite.cases[name].right}]
+            due = [name for name in more if known_answers.MEANT in {it[0] for it in suite.cases[name].right}]
             why = width(suite, failing, due) if due and words == "from" else ""
             lost = " on: sums or messages are too narrow" if words == "from" else ": weak values are lost in rounding or quantising"
             made.append(f"  {len(more)} cases, as {more[0]}, fail {words} level {first}{lost}{why}")

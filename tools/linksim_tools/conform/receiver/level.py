@@ -6,10 +6,10 @@ import dataclasses
 import functools
 import typing
 
-from linksim_tools.conform.receiver.told import ZERO
+from linksim_tools.conform.receiver.reception import ZERO
 
 if typing.TYPE_CHECKING:
-    from linksim_tools.conform.receiver.told import Case
+    from linksim_tools.conform.receiver.reception import Case
 
 
 @dataclasses.dataclass(frozen=True, order=True)

@@ -7,9 +7,9 @@ import typing
 from linksim_tools.common.message import shown
 from linksim_tools.common.program import Failed
 from linksim_tools.conform import bits as lists
-from linksim_tools.conform.receiver import judged, run
+from linksim_tools.conform.receiver import known_answers, run
 from linksim_tools.conform.receiver.mistakes import MISTAKES
-from linksim_tools.conform.receiver.mistakes.listed import DOUBT, STEPS
+from linksim_tools.conform.receiver.mistakes.catalogue import DOUBT, STEPS
 
 if typing.TYPE_CHECKING:
     from linksim_tools.conform.receiver.suite import Kept, Suite
@@ -21,10 +21,10 @@ def show(suite: Suite, name: str, manner: run.Manner) -> typing.Iterator[str]:
         raise Failed(f"{suite.path} has no case {shown(name)}")
     kept = suite.cases[name]
     yield f"# {name}: {kept.case.what}"
-    answers = judged.right_answers(suite.tables, kept.case)
+    answers = known_answers.right_answers(suite.tables, kept.case)
     for line, answer, proved in zip(run.lines_of(kept.case, manner), answers, kept.proved):
         yield line
-        block = judged.NONE if answer.delivered is None else lists.hexadecimal(answer.delivered)
+        block = known_answers.NONE if answer.delivered is None else lists.hexadecimal(answer.delivered)
         yield f"# right: delivered {block} passed {answer.passed}; the program proves: {proved}"
 
 

@@ -5,15 +5,15 @@ from __future__ import annotations
 
 import typing
 
-from linksim_tools.conform.receiver import elimination, made, plain
+from linksim_tools.conform.receiver import elimination, blocks, plain
 from linksim_tools.conform.receiver.drafts import Draft
-from linksim_tools.conform.receiver.judged import FAULTS
+from linksim_tools.conform.receiver.known_answers import FAULTS
 from linksim_tools.conform.receiver.level import octets_of
-from linksim_tools.conform.receiver.made import Maker
+from linksim_tools.conform.receiver.blocks import Maker
 from linksim_tools.conform.receiver.mistakes import MISTAKES
-from linksim_tools.conform.receiver.told import Arrival, Case
+from linksim_tools.conform.receiver.reception import Arrival, Case
 
-ORDERS = (made.extension, made.early, made.parity, made.last, made.even)
+ORDERS = (blocks.extension, blocks.early, blocks.parity, blocks.last, blocks.even)
 
 
 def same(one: Draft, other: Draft) -> bool:
@@ -118,7 +118,7 @@ def laid_for(
     def otherwise(t: int, column: int, copy: int) -> typing.Any:
         return (t, column + first) not in places, column
 
-    for wanted in (otherwise, made.extension, made.last) if over else ORDERS:
+    for wanted in (otherwise, blocks.extension, blocks.last) if over else ORDERS:
         draft.kept = [[set(part.numbers) for part in parts] for parts in draft.laid]
         found = draft.critical(wanted, seed=label, tries=tries)
         if found is None or found.slack() and not (over and found.thinned(over, needed)):

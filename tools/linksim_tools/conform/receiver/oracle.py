@@ -12,7 +12,7 @@ from linksim_tools.common.program import Failed, answers_of, settings_text
 from linksim_tools.conform import bits as lists
 from linksim_tools.conform.receiver import drafts, steps
 from linksim_tools.conform.receiver.chain import Receiver
-from linksim_tools.conform.receiver.told import LONG, ZERO, Arrival, Case
+from linksim_tools.conform.receiver.reception import LONG, ZERO, Arrival, Case
 
 # So many transmissions at most are in one schedule, and so many blocks (of 256).
 MOST, BLOCKS = 1000, 200

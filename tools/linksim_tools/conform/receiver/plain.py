@@ -6,11 +6,11 @@ import itertools
 import random
 import typing
 
-from linksim_tools.conform.receiver import drafts, made, peeling, steps
+from linksim_tools.conform.receiver import drafts, blocks, peeling, steps
 from linksim_tools.conform.receiver.level import octets_of
 from linksim_tools.conform.receiver.drafts import Draft
-from linksim_tools.conform.receiver.made import Maker, again, sized
-from linksim_tools.conform.receiver.told import Arrival, Case
+from linksim_tools.conform.receiver.blocks import Maker, again, sized
+from linksim_tools.conform.receiver.reception import Arrival, Case
 
 # Sizes: a name, A and the code rate.
 SMALL = (
@@ -88,7 +88,7 @@ def configurations() -> typing.Iterator[Configuration]:
 
 
 WANTED: dict[str, drafts.Wanted] = {it.__name__.replace("_", "-"): it for it in (
-    made.early, made.parity, made.extension, made.late, made.even, made.first, made.last, made.first_copy, made.second_copy
+    blocks.early, blocks.parity, blocks.extension, blocks.late, blocks.even, blocks.first, blocks.last, blocks.first_copy, blocks.second_copy
 )}
 # In which order other columns are tried if those that are wanted do not fix the block.
 OTHERWISE = ("early", "extension", "even", "late", "parity")
@@ -118,7 +118,7 @@ def plain(make: Maker, name: str, arrivals: list[Arrival], wanted: str) -> typin
             continue
         yield make.case(f"{name}-{wanted}", step_of(name), about(arrivals, order), draft)
         return
-    make.leave_out(f"{name}-{wanted}", made.codewords(arrivals[0].a, arrivals[0].rate2048).graph)
+    make.leave_out(f"{name}-{wanted}", blocks.codewords(arrivals[0].a, arrivals[0].rate2048).graph)
 
 
 def rung(told: Arrival, values: str, bits: str, need: tuple[int, int]) -> Case:
@@ -141,7 +141,7 @@ def ladder(make: Maker, wanted: typing.Sequence[tuple[int, int]]) -> typing.Iter
 def by_columns(make: Maker, least: int, most: int) -> typing.Iterator[Case]:
     """Whole columns that take so many rounds."""
     for (name, a, rate), order in itertools.product(SMALL, ("parity", "late", "even", "extension")):
-        if made.codewords(a, rate).graph in make.tables.graphs():
+        if blocks.codewords(a, rate).graph in make.tables.graphs():
             told, = sized(a, rate, [0], 0.99)
             draft = make.draft(f"ladder {name}", [told], None)
             if draft.deep(WANTED[order], least, most, 40):
@@ -154,7 +154,7 @@ def by_columns(make: Maker, least: int, most: int) -> typing.Iterator[Case]:
 def by_draws(make: Maker, least: int, most: int) -> typing.Iterator[Case]:
     """Drawn erasures that take so many rounds."""
     told, = sized(1400, 2048, [0], 0.99)
-    if made.codewords(told.a, told.rate2048).graph not in make.tables.graphs():
+    if blocks.codewords(told.a, told.rate2048).graph not in make.tables.graphs():
         return
     draft, drawn = make.draft("ladder", [told], None), random.Random(f"{make.seed} ladder")
     whole, = draft.values()

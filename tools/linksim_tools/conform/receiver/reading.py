@@ -14,13 +14,13 @@ from linksim_tools.conform.encoder.judging import NOTHING, Trials
 from linksim_tools.conform.encoder.search import Search
 from linksim_tools.conform.receiver import conditions, steps
 from linksim_tools.conform.receiver.level import octets_of
-from linksim_tools.conform.receiver.told import ZERO
+from linksim_tools.conform.receiver.reception import ZERO
 
 if typing.TYPE_CHECKING:
     from linksim_tools.conform.case import Case
     from linksim_tools.conform.receiver.answers import Answers
     from linksim_tools.conform.receiver.diagnosis import Diagnosis
-    from linksim_tools.conform.receiver.told import Arrival
+    from linksim_tools.conform.receiver.reception import Arrival
 
 SIGNS = bytes(b"0+-"[(octet > ZERO) + 2 * (octet < ZERO)] for octet in range(256))
 # So many values of a code block must arrive for its places to be read, and so many cases must show the same.

@@ -9,18 +9,18 @@ from linksim_tools.common.program import name_of
 from linksim_tools.conform import bits as lists
 from linksim_tools.conform import report as shared
 from linksim_tools.conform.files import Object
-from linksim_tools.conform.receiver import conditions, doubts, judged, steps, verdicts
+from linksim_tools.conform.receiver import conditions, doubts, known_answers, steps, verdicts
 from linksim_tools.conform.receiver.diagnosis import Diagnosis, Iterations, iterations
-from linksim_tools.conform.receiver.mistakes.listed import STEPS
-from linksim_tools.conform.receiver.seen import Seen
+from linksim_tools.conform.receiver.mistakes.catalogue import STEPS
+from linksim_tools.conform.receiver.evidence import Seen
 
-from linksim_tools.conform.receiver.told import UNSUPPORTED
+from linksim_tools.conform.receiver.reception import UNSUPPORTED
 
 if typing.TYPE_CHECKING:
     from linksim_tools.conform.report import Record
     from linksim_tools.conform.receiver.answers import Answers
     from linksim_tools.conform.receiver.suite import Kept, Suite
-    from linksim_tools.conform.receiver.told import Answer, Arrival
+    from linksim_tools.conform.receiver.reception import Answer, Arrival
 
 
 @dataclasses.dataclass(frozen=True)
@@ -111,11 +111,11 @@ def differences(kept: Kept, tx: int, answer: Answer, right: Answer) -> typing.It
 def soft_lines(kept: Kept, tx: int, found: tuple[str, ...], right: tuple[str, ...]) -> typing.Iterator[str]:
     """The first soft value that is not right."""
     told = kept.case.arrivals[tx]
-    wrong = numbers_wrong("soft", found, right, judged.least_soft(told))
+    wrong = numbers_wrong("soft", found, right, known_answers.least_soft(told))
     if wrong:
         yield wrong
         return
-    both = (judged.soft_of(it, told.a, told.rate2048) for it in (found, right))
+    both = (known_answers.soft_of(it, told.a, told.rate2048) for it in (found, right))
     for r, (one, other) in enumerate(zip(*both)):
         place = first_place(one, other)
         if place is not None:
@@ -141,7 +141,7 @@ def first_of(of: Diagnosis, answers: Answers, name: str) -> First:
     """The first difference of a case."""
     kept = of.suite.cases[name]
     case, tx = kept.case, of.fits(name).index(False)
-    answer, right = answers[name][tx], judged.right_answers(of.suite.tables, case)[tx]
+    answer, right = answers[name][tx], known_answers.right_answers(of.suite.tables, case)[tx]
     lines = [] if answer is None else [*differences(kept, tx, answer, right)]
     shows = f"{name_of('conform')} receiver show {of.suite.path} {name}"
     return First(case.step, name, lines, case.what, tx, len(case.arrivals), about(case.arrivals[tx]), shows)

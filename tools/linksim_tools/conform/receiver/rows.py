@@ -8,10 +8,10 @@ import typing
 from linksim_tools.common.graphs import GRAPHS
 from linksim_tools.conform.clauses import SETS
 from linksim_tools.conform.encoder.points import first_sizes
-from linksim_tools.conform.receiver import conditions, drafts, made, plain
+from linksim_tools.conform.receiver import conditions, drafts, blocks, plain
 from linksim_tools.conform.receiver.drafts import Columns, Draft, Group
-from linksim_tools.conform.receiver.made import Maker, sized
-from linksim_tools.conform.receiver.told import Arrival, Case
+from linksim_tools.conform.receiver.blocks import Maker, sized
+from linksim_tools.conform.receiver.reception import Arrival, Case
 
 # So many cases at most are made for a base graph and a set, each the best of so many drawn orders of columns, and so many more in
 # vain.
@@ -92,7 +92,7 @@ def of_set(make: Maker, graph: int, index: int) -> typing.Iterator[Case]:
 def of_large_numbers(make: Maker, graph: int) -> typing.Iterator[Case]:
     """Cases of the largest lifting size, by a shift of 9 bits and by a place of d of 15 bits."""
     told, = sized(*LARGEST_OF[graph], [0], 1.0)
-    rows = make.receiver().rows(made.codewords(told.a, told.rate2048))
+    rows = make.receiver().rows(blocks.codewords(told.a, told.rate2048))
     for what, some in (("shifts", {number for number, row in enumerate(rows.rows) if max(shift for _, shift in row) > 255}),
                        ("places", {number for number, row in enumerate(rows.rows) if (row[-1][0] - 2) * rows.z > 16_383})):
         if some and some == (yield from showing(make, f"rows-{graph}-{what}", f"{graph} {what}", told, some, 1)):

@@ -14,7 +14,7 @@ from linksim_tools.conform.receiver.level import Level
 from linksim_tools.conform.receiver.suite import Suite, told_of
 
 if typing.TYPE_CHECKING:
-    from linksim_tools.conform.receiver.told import Case
+    from linksim_tools.conform.receiver.reception import Case
 
 RESET = {True: "reset", False: json.dumps({"reset": True})}
 

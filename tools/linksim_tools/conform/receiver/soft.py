@@ -9,7 +9,7 @@ import operator
 import sys
 import typing
 
-from linksim_tools.conform.receiver.told import ZERO
+from linksim_tools.conform.receiver.reception import ZERO
 
 if typing.TYPE_CHECKING:
     from linksim_tools.conform.receiver.steps import Places

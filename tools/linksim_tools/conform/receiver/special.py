@@ -5,11 +5,11 @@ from __future__ import annotations
 import dataclasses
 import typing
 
-from linksim_tools.conform.receiver import drafts, made, steps
+from linksim_tools.conform.receiver import drafts, blocks, steps
 from linksim_tools.conform.receiver.drafts import Draft
-from linksim_tools.conform.receiver.made import Maker, again, sized
-from linksim_tools.conform.receiver.mistakes.listed import DOUBT
-from linksim_tools.conform.receiver.told import Arrival, Case
+from linksim_tools.conform.receiver.blocks import Maker, again, sized
+from linksim_tools.conform.receiver.mistakes.catalogue import DOUBT
+from linksim_tools.conform.receiver.reception import Arrival, Case
 
 # A block of base graph 2, and one of base graph 1.
 SMALLEST, OTHER = 24, 296
@@ -93,15 +93,15 @@ def of_contents(make: Maker, a: int) -> typing.Iterator[Case]:
     told, = sized(a, 2048, [0], 0.97)
     for name, bits in (("ones", "1" * a), ("single", "1".rjust(a, "0")), ("alternating", "10" * (a // 2))):
         yield make.case(f"{name}-{a}", "decoder", f"a block of {name} bits" if name != "single" else "a block of a single one",
-                        make.draft(f"{name} {a}", [told], made.early, bits))
+                        make.draft(f"{name} {a}", [told], blocks.early, bits))
 
 
 def of_full_buffers(make: Maker, a: int, rate: int) -> typing.Iterator[Case]:
     """Cases of new data after a block of which every value arrived: nothing of it may be left in any part of the buffer."""
     told, = sized(a, rate, [0], 1.0)
     one = make.draft(f"full {a}", [told], None)
-    for name, wanted in (("early", made.early), ("even", made.even), ("late", made.late)):
-        if a < 1000 or wanted == made.early:
+    for name, wanted in (("early", blocks.early), ("even", blocks.even), ("late", blocks.late)):
+        if a < 1000 or wanted == blocks.early:
             other = make.draft(f"after full {a} {name}", [told], wanted)
             what = f"new data after a block that filled the buffer, {name} columns first"
             yield Case(f"fresh-after-all-{a}-{name}", "processes", what, [told, told], [*one.values(), *other.values("qQ")],
@@ -110,7 +110,7 @@ def of_full_buffers(make: Maker, a: int, rate: int) -> typing.Iterator[Case]:
 
 def of_all_processes(make: Maker) -> typing.Iterator[Case]:
     """A case in which all 16 processes are busy."""
-    drafts_of = [make.draft(f"process {it}", sized(24, 2048, [it % 4, 0], 0.9), made.even) for it in range(16)]
+    drafts_of = [make.draft(f"process {it}", sized(24, 2048, [it % 4, 0], 0.9), blocks.even) for it in range(16)]
     order = [(turn, it) for turn in range(2) for it in range(16)]
     arrivals = [dataclasses.replace(drafts_of[it].arrivals[turn], process=it) for turn, it in order]
     values = [it.values() for it in drafts_of]
@@ -118,10 +118,10 @@ def of_all_processes(make: Maker) -> typing.Iterator[Case]:
                [drafts_of[it].bits for _, it in order])
 
 
-def of_fresh(make: Maker, a: int, name: str, version: int, what: str, wanted: drafts.Wanted = made.early) -> typing.Iterator[Case]:
+def of_fresh(make: Maker, a: int, name: str, version: int, what: str, wanted: drafts.Wanted = blocks.early) -> typing.Iterator[Case]:
     """A case of a fresh block after another one in the same process, of which these columns arrived."""
     (told,), (then,) = (sized(a, 2048, [it], 0.97) for it in (0, version))
-    before = f"before {a}" if wanted == made.early else f"before {name} {a}"
+    before = f"before {a}" if wanted == blocks.early else f"before {name} {a}"
     one, other = make.draft(before, [told], wanted), make.draft(f"{name} {a}", [then], wanted)
     (right,), (weak,) = one.values(), other.values("qQ")
     yield Case(f"{name}-{a}", "processes", what, [told, then], [right, weak], [one.bits, other.bits])
@@ -146,8 +146,8 @@ def woven(one: Draft, other: Draft, processes: tuple[int, int]) -> tuple[list[Ar
 
 def of_processes(make: Maker, a: int) -> typing.Iterator[Case]:
     """Cases of two blocks in turn."""
-    one = make.draft(f"one {a}", sized(a, 2048, [0, 0], 0.9), made.even)
-    other = make.draft(f"other {a}", sized(a, 2048, [0, 2], 0.6), made.even)
+    one = make.draft(f"one {a}", sized(a, 2048, [0, 0], 0.9), blocks.even)
+    other = make.draft(f"other {a}", sized(a, 2048, [0, 2], 0.6), blocks.even)
     for name, processes in (("processes", (0, 1)), ("processes-far", (3, 11))):
         yield Case(f"{name}-{a}", "processes", f"processes {processes[0]} and {processes[1]} in turn",
                    *woven(one, other, processes))
@@ -155,10 +155,10 @@ def of_processes(make: Maker, a: int) -> typing.Iterator[Case]:
 
 def of_process_sizes(make: Maker) -> typing.Iterator[Case]:
     """Cases of the last process, and of two blocks of other sizes in turn."""
-    one, other = (make.draft(f"{it} 24", sized(24, 2048, [0, 0], 0.9), made.even) for it in ("ninth", "last"))
+    one, other = (make.draft(f"{it} 24", sized(24, 2048, [0, 0], 0.9), blocks.even) for it in ("ninth", "last"))
     yield Case("processes-last", "processes", "processes 9 and 15 in turn", *woven(one, other, (9, 15)))
-    one = make.draft("short", sized(24, 2048, [0, 0], 0.9), made.even)
-    other = make.draft("long", sized(296, 2048, [0, 2], 0.6), made.even)
+    one = make.draft("short", sized(24, 2048, [0, 0], 0.9), blocks.even)
+    other = make.draft("long", sized(296, 2048, [0, 2], 0.6), blocks.even)
     yield Case("processes-sizes", "processes", "two processes with blocks of other sizes", *woven(one, other, (1, 2)))
 
 
@@ -221,7 +221,7 @@ def of_part_of_crc(make: Maker, a: int, rate: int) -> typing.Iterator[Case]:
 def of_beginning(make: Maker, name: str, bits: str) -> typing.Iterator[Case]:
     """A case whose first bits, which are never sent, are all alike."""
     told, = sized(24, 2048, [0], 0.97)
-    draft = make.draft(name, [told], made.parity, bits)
+    draft = make.draft(name, [told], blocks.parity, bits)
     yield make.case(f"begins-with-{name}", "decoder", f"the bits that are never sent are {name}", draft)
 
 
@@ -241,13 +241,13 @@ def of_parts(make: Maker) -> typing.Iterator[Case]:
 def of_doubts(make: Maker) -> typing.Iterator[Case]:
     """Cases that a receiver may fail by its arithmetic alone."""
     told, = sized(1400, 2048, [0], 0.97)
-    deep = make.draft("doubt", [told], made.even)
+    deep = make.draft("doubt", [told], blocks.even)
     right, = deep.values()
     for name, values, what in (
         ("full-scale", right.translate(LARGEST), "values at full scale"), ("weak", right.translate(ONE), "values of 1")
     ):
         yield Case(f"doubt-{name}", DOUBT, what, [told], [values], [deep.bits])
-    zeros = make.draft("doubt", [told], made.even, "0" * told.a)
+    zeros = make.draft("doubt", [told], blocks.even, "0" * told.a)
     yield make.case("doubt-zeros", DOUBT, "a block of zeros", zeros)
 
 
@@ -260,7 +260,7 @@ def families(make: Maker) -> typing.Iterator[typing.Iterator[Case]]:
         yield of_fresh(make, a, "fresh-rv2", 2, "a fresh block with rv 2")
         yield of_fresh_nothing(make, a)
         yield from (of_rounds(make, a), of_contents(make, a), of_full_buffers(make, a, 2048))
-    yield of_fresh(make, SMALLEST, "fresh-late", 0, "a fresh block, weaker than the one before, by late columns", made.late)
+    yield of_fresh(make, SMALLEST, "fresh-late", 0, "a fresh block, weaker than the one before, by late columns", blocks.late)
     yield from (of_processes(make, SMALLEST), of_processes(make, OTHER), of_process_sizes(make))
     yield from (of_part_of_crc(make, a, rate) for a, rate in ((SMALLEST, 2048), (3832, 2048)))
     several = [it for it in (("two", 3832, 512, 2), ("two-of-1", 8432, 2048, 1)) if it[3] in graphs]
@@ -278,7 +278,7 @@ def cases(make: Maker) -> typing.Iterator[Case]:
     for family in families(make):
         try:
             yield from family
-        except made.NoPattern as draft:
+        except blocks.NoPattern as draft:
             make.leave_out(f"those of '{draft}'")
         except steps.Impossible:
             continue

@@ -14,12 +14,12 @@ from linksim_tools.conform import clauses as chain
 from linksim_tools.conform.case import PLAN, Case, Plan
 from linksim_tools.conform.code import Encoder, TablesKey, encoder_of
 from linksim_tools.conform.encoder.mistakes import MISTAKES, clauses_of
-from linksim_tools.conform.listed import Mistake
+from linksim_tools.conform.mistake import Mistake
 from linksim_tools.conform.receiver import peeling
 
 if typing.TYPE_CHECKING:
     from linksim_tools.conform.case import Tables as Entries
-    from linksim_tools.conform.receiver.told import Arrival
+    from linksim_tools.conform.receiver.reception import Arrival
 
 Impossible = chain.Impossible
 # Mistakes of an encoder, a known one by its name.

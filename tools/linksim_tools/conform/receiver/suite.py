@@ -9,9 +9,9 @@ import pathlib
 from linksim_tools.conform import bits as lists
 from linksim_tools.conform import files
 from linksim_tools.conform.receiver import keeping, steps
-from linksim_tools.conform.receiver.mistakes.listed import DOUBT, STEPS
-from linksim_tools.conform.receiver.judged import Shown
-from linksim_tools.conform.receiver.told import Arrival, Case
+from linksim_tools.conform.receiver.mistakes.catalogue import DOUBT, STEPS
+from linksim_tools.conform.receiver.known_answers import Shown
+from linksim_tools.conform.receiver.reception import Arrival, Case
 
 # What a case of a suite has of a transmission beside its values.
 TOLD = ("process", "fresh", "a", "rate2048", "lbrm", "rv", "g", "qm", "nl", "mask")

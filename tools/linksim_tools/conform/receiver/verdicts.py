@@ -8,12 +8,12 @@ import typing
 
 from linksim_tools.conform import report as shared
 from linksim_tools.conform.receiver.mistakes import MISTAKES
-from linksim_tools.conform.receiver.mistakes.listed import STEPS
+from linksim_tools.conform.receiver.mistakes.catalogue import STEPS
 
 if typing.TYPE_CHECKING:
     from linksim_tools.conform.files import Object
-    from linksim_tools.conform.listed import Mistake
-    from linksim_tools.conform.receiver.seen import Seen
+    from linksim_tools.conform.mistake import Mistake
+    from linksim_tools.conform.receiver.evidence import Seen
 
 # How many mistakes that fit are named.
 NAMED = 4

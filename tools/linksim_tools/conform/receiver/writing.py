@@ -10,13 +10,13 @@ import typing
 from linksim_tools.common.program import Failed
 from linksim_tools.conform import bits as lists
 from linksim_tools.conform import code, files
-from linksim_tools.conform.receiver import apart, design, judged, keeping, oracle, steps
-from linksim_tools.conform.receiver.judged import Shown
+from linksim_tools.conform.receiver import apart, design, known_answers, keeping, oracle, steps
+from linksim_tools.conform.receiver.known_answers import Shown
 from linksim_tools.conform.receiver.level import octets_of
-from linksim_tools.conform.receiver.made import Maker
+from linksim_tools.conform.receiver.blocks import Maker
 from linksim_tools.conform.receiver.mistakes import MISTAKES
 from linksim_tools.conform.receiver.suite import Kept, told_of
-from linksim_tools.conform.receiver.told import LONG, Case
+from linksim_tools.conform.receiver.reception import LONG, Case
 
 
 def line_of(kept: Kept) -> str:
@@ -37,7 +37,7 @@ def kept_of(tables: steps.Tables, case: Case, found: apart.Found, proved: list[o
     """A case with what all answer. The model without a mistake is held to the program's outcomes: other blocks are a fault. A
     case in which they leave other bits open is left out, and None."""
     right, clash = found[""]
-    for answer, outcome in zip(judged.right_answers(tables, case), proved):
+    for answer, outcome in zip(known_answers.right_answers(tables, case), proved):
         if answer.delivered != outcome.block:
             fault = "this is a fault of the program or of the tool"
             raise Failed(f"case {case.id}: the model and the program deliver different blocks: {fault}")
@@ -56,7 +56,7 @@ def written(program: pathlib.Path, path: str, profile: str, seed: int, known: ty
     tables = steps.Tables(entries)
     cases, left_out = design.designed(tables, profile, seed)
     is_full = profile == "full"
-    found = [judged.everyone(tables, known if case.size <= LONG else (), case)
+    found = [known_answers.everyone(tables, known if case.size <= LONG else (), case)
              for case in design.counted(cases, f"of {len(cases)} are answered with each mistake", is_full)]
     if profile == "quick" and known:
         apart.sharper(Maker(tables, seed), cases, found, design.MOST)

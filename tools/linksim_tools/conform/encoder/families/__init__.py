@@ -6,7 +6,7 @@ import functools
 import typing
 
 from linksim_tools.conform.encoder.families import crcs, limits, numbers, orders, rows, state
-from linksim_tools.conform.listed import Mistake
+from linksim_tools.conform.mistake import Mistake
 
 if typing.TYPE_CHECKING:
     from linksim_tools.conform.encoder.judging import Trial

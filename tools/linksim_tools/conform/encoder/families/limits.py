@@ -8,8 +8,8 @@ import itertools
 import typing
 
 from linksim_tools.conform.clauses import KCB, Clauses
-from linksim_tools.conform.encoder.families.made import Method, mistake
-from linksim_tools.conform.listed import Mistake
+from linksim_tools.conform.encoder.families.family import Method, mistake
+from linksim_tools.conform.mistake import Mistake
 
 if typing.TYPE_CHECKING:
     from linksim_tools.conform.case import Plan

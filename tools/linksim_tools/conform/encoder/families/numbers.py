@@ -7,8 +7,8 @@ import typing
 
 from linksim_tools.common.graphs import GRAPHS, STARTS
 from linksim_tools.conform.clauses import SETS, SIZES, Clauses
-from linksim_tools.conform.encoder.families.made import Method, after, mistake, told
-from linksim_tools.conform.listed import Mistake
+from linksim_tools.conform.encoder.families.family import Method, after, mistake, told
+from linksim_tools.conform.mistake import Mistake
 
 # The numbers that a hook makes: their names and steps. A number of a case is one of several settings.
 HOOKS = {

@@ -6,8 +6,8 @@ import typing
 
 from linksim_tools.conform.bits import Order, backwards, each_octet_reversed, in_words, inverted, octets_backwards, words_of
 from linksim_tools.conform.clauses import Clauses
-from linksim_tools.conform.encoder.families.made import Method, mistake
-from linksim_tools.conform.listed import Mistake
+from linksim_tools.conform.encoder.families.family import Method, mistake
+from linksim_tools.conform.mistake import Mistake
 
 
 def filled_turned(width: int) -> Order:

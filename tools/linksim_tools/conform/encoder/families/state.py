@@ -9,9 +9,9 @@ import typing
 from linksim_tools.conform import bits as lists
 from linksim_tools.conform.clauses import Clauses, right
 from linksim_tools.conform.code import encoder_of
-from linksim_tools.conform.encoder.families.made import Method, mistake
+from linksim_tools.conform.encoder.families.family import Method, mistake
 from linksim_tools.conform.encoder.points import Facts
-from linksim_tools.conform.listed import Mistake
+from linksim_tools.conform.mistake import Mistake
 
 if typing.TYPE_CHECKING:
     from linksim_tools.conform.case import Case

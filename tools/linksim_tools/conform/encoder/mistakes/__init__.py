@@ -7,8 +7,8 @@ import typing
 
 from linksim_tools.conform.clauses import Clauses, right
 from linksim_tools.conform.encoder.mistakes import coding, crc, matching, segmentation, sending
-from linksim_tools.conform.encoder.mistakes.listed import CATALOGUE
-from linksim_tools.conform.listed import Mistake, class_of
+from linksim_tools.conform.encoder.mistakes.catalogue import CATALOGUE
+from linksim_tools.conform.mistake import Mistake, class_of
 
 # The modules list them when they are imported.
 MODULES = (crc, segmentation, coding, matching, sending)

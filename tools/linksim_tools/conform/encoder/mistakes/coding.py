@@ -8,8 +8,8 @@ from linksim_tools.common.graphs import GRAPHS
 from linksim_tools.conform import bits as lists
 from linksim_tools.conform.case import Row
 from linksim_tools.conform.clauses import Clauses
-from linksim_tools.conform.encoder.mistakes.listed import mistake
-from linksim_tools.conform.listed import Method
+from linksim_tools.conform.encoder.mistakes.catalogue import mistake
+from linksim_tools.conform.mistake import Method
 
 
 def turned(_self: Clauses, right: Method, value: int, z: int, largest: int) -> int | None:

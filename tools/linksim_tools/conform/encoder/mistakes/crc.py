@@ -3,7 +3,7 @@
 from __future__ import annotations
 
 from linksim_tools.conform import bits as lists
-from linksim_tools.conform.encoder.mistakes.listed import mistake
+from linksim_tools.conform.encoder.mistakes.catalogue import mistake
 
 mistake("crc", "crc-exchanged", "6.2.1, 7.2.1", "CRC16 and CRC24A are exchanged", "attach CRC24A where A > 3824, else CRC16",
         crc_of_block=lambda _self, right, a: {"CRC16": "CRC24A", "CRC24A": "CRC16"}[right(a)])

@@ -4,7 +4,7 @@ from __future__ import annotations
 
 from linksim_tools.common.graphs import GRAPHS
 from linksim_tools.conform.clauses import SIZES
-from linksim_tools.conform.encoder.mistakes.listed import mistake
+from linksim_tools.conform.encoder.mistakes.catalogue import mistake
 
 CLAUSE = "6.2.2, 7.2.2"
 

@@ -6,8 +6,8 @@ import typing
 
 from linksim_tools.conform import bits as lists
 from linksim_tools.conform.clauses import Clauses
-from linksim_tools.conform.encoder.mistakes.listed import mistake
-from linksim_tools.conform.listed import Method
+from linksim_tools.conform.encoder.mistakes.catalogue import mistake
+from linksim_tools.conform.mistake import Method
 
 CLAUSE = "5.4.2.1"
 

@@ -7,12 +7,12 @@ import dataclasses
 import functools
 
 from linksim_tools.conform.encoder import mistakes as encoders
-from linksim_tools.conform.listed import Mistake, class_of
+from linksim_tools.conform.mistake import Mistake, class_of
 from linksim_tools.conform.receiver import steps
 from linksim_tools.conform.receiver.chain import Receiver
 from linksim_tools.conform.receiver.mistakes import combining, decision, decoding, recovery
-from linksim_tools.conform.receiver.mistakes.listed import CATALOGUE
-from linksim_tools.conform.receiver.told import Arrival
+from linksim_tools.conform.receiver.mistakes.catalogue import CATALOGUE
+from linksim_tools.conform.receiver.reception import Arrival
 
 # The modules list them when they are imported.
 MODULES = (recovery, combining, decoding, decision)

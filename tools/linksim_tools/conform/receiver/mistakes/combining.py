@@ -5,11 +5,11 @@ from __future__ import annotations
 import dataclasses
 import typing
 
-from linksim_tools.conform.listed import Method
+from linksim_tools.conform.mistake import Method
 from linksim_tools.conform.receiver.chain import Process, Receiver
-from linksim_tools.conform.receiver.mistakes.listed import mistake
+from linksim_tools.conform.receiver.mistakes.catalogue import mistake
 from linksim_tools.conform.receiver.soft import Soft, empty
-from linksim_tools.conform.receiver.told import Arrival, translated
+from linksim_tools.conform.receiver.reception import Arrival, translated
 
 SIGNS = translated(lambda value: (value > 0) - (value < 0))
 

@@ -2,11 +2,11 @@
 
 from __future__ import annotations
 
-from linksim_tools.conform.listed import Method
+from linksim_tools.conform.mistake import Method
 from linksim_tools.conform.receiver.chain import Decoded, Process, Receiver
-from linksim_tools.conform.receiver.mistakes.listed import mistake
+from linksim_tools.conform.receiver.mistakes.catalogue import mistake
 from linksim_tools.conform.receiver.steps import Sizes
-from linksim_tools.conform.receiver.told import Arrival
+from linksim_tools.conform.receiver.reception import Arrival
 
 
 def zeros_added(_self: Receiver, right: Method, sizes: Sizes, told: Arrival, process: Process) -> list[Decoded]:

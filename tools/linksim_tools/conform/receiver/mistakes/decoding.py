@@ -5,12 +5,12 @@ from __future__ import annotations
 import typing
 
 from linksim_tools.common.graphs import GRAPHS
-from linksim_tools.conform.listed import Method
+from linksim_tools.conform.mistake import Method
 from linksim_tools.conform.receiver.chain import Receiver
-from linksim_tools.conform.receiver.mistakes.listed import mistake
+from linksim_tools.conform.receiver.mistakes.catalogue import mistake
 from linksim_tools.conform.receiver.soft import Soft
 from linksim_tools.conform.receiver.steps import Sizes
-from linksim_tools.conform.receiver.told import Arrival
+from linksim_tools.conform.receiver.reception import Arrival
 
 Range = typing.Callable[[Receiver, Sizes, Arrival], range]
 

@@ -5,13 +5,13 @@ from __future__ import annotations
 import dataclasses
 import typing
 
-from linksim_tools.conform.listed import Method
+from linksim_tools.conform.mistake import Method
 from linksim_tools.conform.receiver import steps
 from linksim_tools.conform.receiver.chain import Receiver
-from linksim_tools.conform.receiver.mistakes.listed import mistake
+from linksim_tools.conform.receiver.mistakes.catalogue import mistake
 from linksim_tools.conform.receiver.soft import Soft
 from linksim_tools.conform.receiver.steps import Sizes
-from linksim_tools.conform.receiver.told import ZERO, Arrival, translated
+from linksim_tools.conform.receiver.reception import ZERO, Arrival, translated
 
 INVERTED = translated(lambda value: -value)
 SLICED = translated(lambda value: -1 if value < 0 else 1)

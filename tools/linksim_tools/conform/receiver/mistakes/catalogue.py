@@ -2,7 +2,7 @@
 
 from __future__ import annotations
 
-from linksim_tools.conform.listed import Catalogue
+from linksim_tools.conform.mistake import Catalogue
 from linksim_tools.conform.receiver.chain import Receiver
 
 # The steps of a receiver in their order.

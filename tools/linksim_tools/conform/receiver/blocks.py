@@ -10,7 +10,7 @@ import typing
 from linksim_tools.conform.receiver import drafts, steps
 from linksim_tools.conform.receiver.drafts import Draft
 from linksim_tools.conform.receiver.mistakes import receiver_with
-from linksim_tools.conform.receiver.told import Arrival, Case
+from linksim_tools.conform.receiver.reception import Arrival, Case
 
 if typing.TYPE_CHECKING:
     from linksim_tools.conform.receiver.chain import Receiver

@@ -7,9 +7,9 @@ import math
 import typing
 
 from linksim_tools.conform.clauses import Impossible
-from linksim_tools.conform.encoder import former, shifted
+from linksim_tools.conform.encoder import former, displacement
 from linksim_tools.conform.encoder.judging import NOTHING, Made
-from linksim_tools.conform.encoder.observed import selected_bits
+from linksim_tools.conform.encoder.observations import selected_bits
 
 if typing.TYPE_CHECKING:
     from linksim_tools.conform.encoder.judging import Trial, Trials
@@ -78,7 +78,7 @@ def lists_of(step: str, trial: Trial) -> list[tuple[str, list[str], list[str]]]:
     return [*found, ("e", e, trial.made("e", NOTHING))] if e else found
 
 
-def of_bits(step: str, trial: Trial, old: list[str]) -> typing.Iterator[tuple[str, shifted.Shift | str | None]]:
+def of_bits(step: str, trial: Trial, old: list[str]) -> typing.Iterator[tuple[str, displacement.Shift | str | None]]:
     """Words for the bits of a trial, and their shift, for each of its lists that says something; `old` was answered to the case
     before."""
     for name, answered, right in lists_of(step, trial):
@@ -89,18 +89,18 @@ def of_bits(step: str, trial: Trial, old: list[str]) -> typing.Iterator[tuple[st
         if moved or r is None:
             continue
         others = [(f"code block {r}", it) for r, it in enumerate(right)] if len(right) > 1 else []
-        shift = None if shifted.is_flipped(answered[r], right[r]) else shifted.shift_of(answered[r], right[r])
+        shift = None if displacement.is_flipped(answered[r], right[r]) else displacement.shift_of(answered[r], right[r])
         before = [("the case before", (old[r : r + 1] or [""])[0])] + [("the code block before", answered[r - 1])] * (r > 0)
         words = former.words_of(before, answered[r], right[r])
         if shift and not words:
             yield f"{name} {shift.missing}", shift
-        elif words or shifted.other_words(answered[r], right[r], others):
-            yield f"{name}: {words or shifted.other_words(answered[r], right[r], others)}", None
+        elif words or displacement.other_words(answered[r], right[r], others):
+            yield f"{name}: {words or displacement.other_words(answered[r], right[r], others)}", None
 
 
 def of_shifts(step: str, trials: list[Trial], all_trials: Trials) -> list[str]:
     """What most cases have of shifted or former bits."""
-    found: dict[str, list[shifted.Shift | str | None]] = {}
+    found: dict[str, list[displacement.Shift | str | None]] = {}
     for trial in trials:
         before = former.before(all_trials, trial)
         for words, moved in of_bits(step, trial, parts_of(getattr(before.answer, LISTS[step][0])) if before else []):
@@ -110,8 +110,8 @@ def of_shifts(step: str, trials: list[Trial], all_trials: Trials) -> list[str]:
         return []
     words, shifts = max(found.items(), key=lambda it: len(it[1]))
     if 100 * len(shifts) < MOST * len(trials):
-        return in_words([it for moved in found.values() for it in moved if isinstance(it, shifted.Shift)], len(trials))
-    there = [it for it in shifts if isinstance(it, shifted.Shift)]
+        return in_words([it for moved in found.values() for it in moved if isinstance(it, displacement.Shift)], len(trials))
+    there = [it for it in shifts if isinstance(it, displacement.Shift)]
     if isinstance(shifts[0], str):
         words += f", in the smallest case {shifts[0]}"
     if there:
@@ -163,7 +163,7 @@ def of_counts(step: str, trials: list[Trial]) -> list[str]:
         return []
     kind = "missing" if counts[0][2] > 0 else "too many"
     if len({it for *_, it in counts}) == 1:
-        return [f"{shifted.count(abs(counts[0][2]))} {kind} in each list that differs"]
+        return [f"{displacement.count(abs(counts[0][2]))} {kind} in each list that differs"]
     for width in (8, 16, 32, 64):
         for name, numbers in (("B", [plan.b for plan, *_ in counts]), ("K'", [plan.kdash for plan, *_ in counts]),
                               ("G", [g for _, g, _ in counts])):
@@ -172,7 +172,7 @@ def of_counts(step: str, trials: list[Trial]) -> list[str]:
     return []
 
 
-def in_words(shifts: list[shifted.Shift], count: int) -> list[str]:
+def in_words(shifts: list[displacement.Shift], count: int) -> list[str]:
     """What shifts by different numbers of bits have in common: these are whole words."""
     by = [it.missing for it in shifts]
     width = functools.reduce(math.gcd, by, 0)

@@ -6,7 +6,7 @@ import dataclasses
 import typing
 
 from linksim_tools.conform.clauses import Clauses
-from linksim_tools.conform.listed import Mistake
+from linksim_tools.conform.mistake import Mistake
 
 Method = typing.Callable[..., typing.Any]
 

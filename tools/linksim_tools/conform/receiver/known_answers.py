@@ -10,8 +10,8 @@ from linksim_tools.conform.receiver import steps
 from linksim_tools.conform.receiver.level import MODEL, Level, octets_of
 from linksim_tools.conform.receiver.chain import Receiver
 from linksim_tools.conform.receiver.mistakes import receiver_with
-from linksim_tools.conform.receiver.mistakes.listed import STEPS
-from linksim_tools.conform.receiver.told import Answer, Arrival, Case
+from linksim_tools.conform.receiver.mistakes.catalogue import STEPS
+from linksim_tools.conform.receiver.reception import Answer, Arrival, Case
 
 FAULTS = (steps.Impossible, IndexError, ValueError, ZeroDivisionError)
 

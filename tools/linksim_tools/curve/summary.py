@@ -10,7 +10,7 @@ from linksim_tools.curve.sets import short_path
 
 if typing.TYPE_CHECKING:
     from linksim_tools.curve.results import Line
-    from linksim_tools.curve.traced import Curve
+    from linksim_tools.curve.trace import Curve
 
 
 def half_way(points: list[Line], after: int) -> str:

@@ -9,7 +9,7 @@ import typing
 from linksim_tools.conform.receiver import families
 
 if typing.TYPE_CHECKING:
-    from linksim_tools.conform.listed import Mistake
+    from linksim_tools.conform.mistake import Mistake
     from linksim_tools.conform.receiver.diagnosis import Diagnosis
 
 # If more fit than these, none is told. They are looked for until receivers were given so many values.

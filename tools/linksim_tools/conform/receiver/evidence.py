@@ -8,13 +8,13 @@ import dataclasses
 import functools
 import typing
 
-from linksim_tools.conform.receiver import conditions, doubts, handed, judged, reading, tried
+from linksim_tools.conform.receiver import conditions, doubts, wrong_blocks, known_answers, reading, trials
 from linksim_tools.conform.receiver.diagnosis import LEVELS, Diagnosis
 from linksim_tools.conform.receiver.mistakes import MISTAKES
 
 if typing.TYPE_CHECKING:
     from linksim_tools.conform.conditions import Condition
-    from linksim_tools.conform.listed import Mistake
+    from linksim_tools.conform.mistake import Mistake
     from linksim_tools.conform.receiver.answers import Answers
 
 # So many cases at most in which what is decoded contradicts itself may speak against a mistake. A condition of one that a mirror
@@ -44,7 +44,7 @@ class Seen:
 
     @functools.cached_property
     def change(self) -> str | None:
-        return handed.change(self.of.suite, self.answers)
+        return wrong_blocks.change(self.of.suite, self.answers)
 
     @functools.cached_property
     def is_block_wrong(self) -> bool:
@@ -135,7 +135,7 @@ class Seen:
             return []
         if len(self.failing) < SOME and not self.of.tells(self.failing):
             return []
-        found, cut = tried.found(self.of, self.failing)
+        found, cut = trials.found(self.of, self.failing)
         self.cut_short |= cut
         kinds = [*{(it.name, it.step, it.wrong.partition(" ")[0]): it for it in reversed(found)}.values()][::-1]
         if self.of.tells(self.failing):
@@ -170,7 +170,7 @@ class Seen:
     @functools.cached_property
     def delivered(self) -> int:
         """How many of them are delivered, right or wrong."""
-        return sum(word != judged.NONE for word in self.of.due())
+        return sum(word != known_answers.NONE for word in self.of.due())
 
     @property
     def next(self) -> str:
