@@ -23,12 +23,13 @@ static const struct { int rows, columns, n, starts[4]; } SHAPES[3] = {
     {0, 0, 0, {0}}, {46, 68, 22, {0, 17, 33, 56}}, {42, 52, 10, {0, 13, 25, 43}}};
 /* The shift table: by base graph, row and column the values for the set indexes, or -1 where there is no entry. */
 static int table[3][ROWS][COLUMNS][SETS], has_graph[3];
+static const char *reading = ""; /* the file that an error is in */
 
 static void stop(int status, const char *format, ...) {
     va_list values;
     va_start(values, format);
     fflush(stdout);
-    fputs(status == 1 ? "wrong: " : "verify: ", status == 1 ? stdout : stderr);
+    if (status == 1) printf("wrong: "); else fprintf(stderr, "verify: %s%s", reading, *reading ? ": " : "");
     vfprintf(status == 1 ? stdout : stderr, format, values);
     fputs("\n", status == 1 ? stdout : stderr);
     exit(status);
@@ -46,7 +47,7 @@ static char *text_of(const char *path, size_t *length) {
     size_t size = 1 << 16;
     for (*length = 0; file && (!text || *length == size); *length += fread(text + *length, 1, size - *length, file))
         text = room(text, size *= 2);
-    if (!file || ferror(file)) stop(2, "%s cannot be read", path);
+    if (!file || ferror(file)) reading = "", stop(2, "%s cannot be read", path);
     text[*length] = 0;
     return text;
 }
@@ -57,9 +58,8 @@ static int has_shape(int g) {
     for (int s = 0; s < SETS; s++) {
         int a = table[g][0][n][s], b = table[g][middle][n][s], c = table[g][3][n][s];
         is_so &= a >= 0 && b >= 0 && c >= 0 && (a == b || b == c || a == c);
-        for (int i = 0; i < SHAPES[g].rows; i++)
-            for (int j = i < 4 ? n + 1 : n + 4; j < SHAPES[g].columns; j++)
-                is_so &= table[g][i][j][s] == (j == n + i || (i < 4 && j == n + i + 1 && j < n + 4) ? 0 : -1);
+        for (int i = 0; i < SHAPES[g].rows; i++) for (int j = i < 4 ? n + 1 : n + 4; j < SHAPES[g].columns; j++)
+            is_so &= table[g][i][j][s] == (j == n + i || (i < 4 && j == n + i + 1 && j < n + 4) ? 0 : -1);
     }
     return is_so;
 }
@@ -393,8 +393,8 @@ static long verify(Line head) {
 int main(int count, char **words) {
     size_t length;
     if (count != 3) stop(2, "usage: verify TABLE CERTIFICATE");
-    read_table(words[1]);
-    cursor = text_of(words[2], &length), end_of_file = cursor + length;
+    read_table(reading = words[1]);
+    cursor = text_of(reading = words[2], &length), end_of_file = cursor + length;
     for (long at = 0; !at || cursor < end_of_file;) at = verify(next_line(at + 1));
     return 0;
 }
