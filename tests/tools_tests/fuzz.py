@@ -163,7 +163,7 @@ def of_conform(folder: pathlib.Path, words: list[str], table: pathlib.Path) -> t
     suites = ["\n".join([json.dumps({**json.loads(head), "cases": len(it)}), *it, ""]).encode() for it in kept]
     path = folder / f"suite{len(words)}.jsonl"
     path.write_bytes(suites[-1])
-    return suites, path, Given(suite=str(path), plain=False, only=[], json=False, html=None, junit=None, require=[])
+    return suites, path, Given(suite=str(path), plain=False, only=[], json=False, html=None, junit=None, coverage=None, require=[])
 
 
 def with_path(call: typing.Callable[[Given], object], given: Given, name: str, **more: object) -> Read:

@@ -35,7 +35,7 @@ class Lines(Conf):
     def test_results_in_no_file(self) -> None:
         self.assertIn("No such file", self.refused("run", self.conf, "--out", self.folder / "none" / "x.csv"))
         for path in ("/dev/full", "/dev/null", "-", self.folder):
-            self.assertIn("no regular file", self.refused("run", self.conf, "--out", path))
+            self.assertIn("not a regular file", self.refused("run", self.conf, "--out", path))
         picture = self.file("c.png", b"\x89PNG\r\n\x1a\n\xff")
         self.assertIn("is not UTF-8 text", shared.refused("curve", "run", self.conf, "--out", picture))
         self.assertEqual(picture.read_bytes()[-1:], b"\xff")
