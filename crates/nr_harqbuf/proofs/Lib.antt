@@ -1,7 +1,7 @@
 mod Common
 mod KeptBitFacts
 pub mod RecordLaws
-mod MarkWordFacts
+pub mod MarkWordFacts
 mod MergedWordFacts
 mod MergedListFacts
 mod MergedRecordFacts

@@ -71,6 +71,16 @@ impl Store {
         })
     }
 
+    /// Becomes equal to another buffer of as many codeword indexes. Allocates nothing.
+    pub fn copy_from(&mut self, from: &Store)
+        requires { length self.old.first ≡ length from.now.first }
+        ensures { self.new ≡ from.now }
+    {
+        copy_bits(&mut self.marks.heard, &from.marks.heard);
+        copy_bits(&mut self.marks.value, &from.marks.value);
+        self.clash = from.clash;
+    }
+
     /// Returns which codeword indexes have been received, and the bit that was received first at each of them.
     pub fn marks(&self) -> &Marks
         ensures { IsKeptBy self.now (marks_in result.now) }
@@ -157,4 +167,13 @@ impl Store {
         let Store { clash, .. } = self;
         *clash
     }
+}
+
+// Makes a list equal to another one of the same length.
+fn copy_bits(bits: &mut Bits, from: &Bits)
+    requires { length bits.old.items ≡ length from.now.items }
+    ensures { bits.new.items ≡ from.now.items }
+{
+    bits.clear();
+    bits.extend_range(from, 0, from.len());
 }
