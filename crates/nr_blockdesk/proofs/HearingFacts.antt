@@ -48,7 +48,8 @@ firsts-before : (s t : HeardBits) (pos : ℕ) (v : Bool) (w : ℕ → Bool) → 
     → HasFirsts t w → HasFirsts s w
 firsts-before s t pos v w unheard firsts has k b is = grind (arith, get_or-set_other, cases_eq)
 
-clash-more : (s : HeardBits) (pos : ℕ) (v : Bool) → (with_hearing s (pos, v)).clash ≡ (s.clash || differs (first_at s pos) v)
+pub clash-more : (s : HeardBits) (pos : ℕ) (v : Bool)
+    → (with_hearing s (pos, v)).clash ≡ (s.clash || differs (first_at s pos) v)
 unfolding with_hearing
 clash-more s pos v = refl
 

@@ -17,6 +17,8 @@ mod MarkFacts
 mod SelectedBitFacts
 mod TurnFacts
 mod MergingFacts
+mod ToldFacts
+mod SettlingFacts
 mod OutcomeExactFacts
 mod PlacesFacts
 mod CallFacts

@@ -43,7 +43,7 @@ joined old h part_masks = cond (is_heard old) old (cond h (Some part_masks) None
 
 -- words against a record before and after all that is told was received
 module _ (s : HeardBits) (m : Marks) (long : length m.at ≡ length s.first) where
-  first-is : (p : ℕ) → first_at (merge_of s m) p ≡ joined (first_at s p) (bit m.at p) (bit m.bits p)
+  pub first-is : (p : ℕ) → first_at (merge_of s m) p ≡ joined (first_at s p) (bit m.at p) (bit m.bits p)
   unfolding merge_of
   first-is p = grind (arith, nat_tests, cases_lt, get_or-map-range_with_len, length-map-range_with_len, get_or_past)
 
@@ -51,7 +51,7 @@ module _ (s : HeardBits) (m : Marks) (long : length m.at ≡ length s.first) whe
   unfolding merge_of
   clash-is = refl
 
-  long-is : length (merge_of s m).first ≡ length s.first
+  pub long-is : length (merge_of s m).first ≡ length s.first
   unfolding merge_of
   long-is = length-map-range_with_len (first_merged s m) 0 (length s.first)
 
@@ -69,7 +69,7 @@ module _ (s : HeardBits) (m : Marks) (long : length m.at ≡ length s.first) whe
   )
 
   -- the marks of positions told for the first time
-  marks : (p : ℕ) → is_heard (first_at (merge_of s m) p) ≡ (is_heard (first_at s p) || bit m.at p)
+  pub marks : (p : ℕ) → is_heard (first_at (merge_of s m) p) ≡ (is_heard (first_at s p) || bit m.at p)
   marks p = grind (arith, first-is)
 
   -- the news is what the record has after it and lacked before

@@ -13,6 +13,7 @@ use Rattle.nr_blockdesk.proofs.MarkFacts.{heard-at, length-heards, tells-marked}
 use Rattle.nr_blockdesk.proofs.SenderFacts.{bit-interleaved, length-interleaved}
 use Rattle.std.{specs.Int.bit_not, proofs.lemmas.List.Folds.Any-from_list_any, proofs.Math.Bool.or_assoc}
 use Rattle.nr_interleave.proofs.SeatFacts.{seat-given, seat-inside}
+use Rattle.nr_harqbuf.proofs.RecordLaws.{beq_same}
 
 -- a number of a range passes a test
 pub found : (f : ℕ → Bool) (a n k : ℕ) → a ≤ k → k < a + n → f k ≡ true → list_any f (range_with_len a n) ≡ true
@@ -124,6 +125,18 @@ any-part_masks f p v (n ∷ ns) =
 part_masks-at : (p q : ℕ) (v : Bool) (o : Option Bool) → told_by p v (option_map (λ b. (q, b)) o) ≡ ((q == p) && tells o v)
 unfolding told_by
 part_masks-at p q v o = grind (arith, nat_tests, and-false)
+
+-- a place among the first n that was received tells its bit
+pub place-told : (b : Circular) (tx : Tx) (heard : List Heard) (n m pos : ℕ) (v : Bool) → m < n
+    → heard_bit (heard_at heard m) ≡ Some v → pos ≡ place_of b tx.rv (seat_of tx.qm (length heard) m)
+    → heard_as (part_hearings b tx heard n) pos v ≡ true
+unfolding heard_as
+place-told b tx heard n m pos v below some at =
+    let q : ℕ = place_of b tx.rv (seat_of tx.qm (length heard) m) in
+    any-part_masks (part_hearing b tx heard) pos v (range_with_len 0 n)
+    ∙ found (λ k. told_by pos v (part_hearing b tx heard k)) 0 n m (omega arith) (omega (arith, below))
+    (part_masks-at pos q v (heard_bit (heard_at heard m)) ∙ ap (λ o. (q == pos) && tells o v) some
+    ∙ and_from (q == pos) (beq v v) (eq-eqb q pos (sym at)) (beq_same v))
 
 -- bits that are interleaved to the marks and bits of a part say what its places tell
 module _ (b : Circular) (tx : Tx) (marks bits chosen chosen-too : List Bool) (from n : ℕ) (some : 0 < tx.qm)

@@ -1,16 +1,19 @@
 //! What a code block's part of a transmission has, put together by words. It goes by runs of the circular buffer, whose
 //! places are contiguous in the codeword.
 
-ghost use Rattle.std.specs.Prelude.{◌≡◌, ℕ, ◌+◌, ◌*◌, ◌<◌, ◌≤◌, ◌||◌, length, IsFalse, IsTrue, Bool};
-ghost use Rattle.std.specs.List.{list_any, range_with_len};
+ghost use Rattle.std.specs.Prelude.{◌≡◌, ℕ, ◌+◌, ◌-◌, ◌*◌, ◌<◌, ◌≤◌, ◌==◌, ◌||◌, ◌&&◌};
+ghost use Rattle.std.specs.Prelude.{nat_le, nat_lt};
+ghost use Rattle.std.specs.Prelude.{length, IsFalse, IsTrue, Bool};
+ghost use Rattle.std.specs.{Int.bit_at, List.list_any, List.range_with_len};
+ghost use Rattle.nr_bitvec.specs.Bit.{bit};
 ghost use Rattle.nr_bitvec.specs.Marks.{marks_in};
 ghost use Rattle.nr_harqbuf.specs.Marks.{says, word_says};
 ghost use Rattle.nr_ratematch.specs.Selection.{Circular, place_of};
 ghost use Rattle.nr_blockdesk.specs.inside.Words.{HasRoomFor, bit_says, positions_on, received_marks};
-ghost use Rattle.nr_blockdesk.specs.inside.PartMasks.{AreEmpty};
+ghost use Rattle.nr_blockdesk.specs.inside.PartMasks.{AreEmpty, is_listed};
 
 use crate::selected::Selected;
-use nr_bitvec::Marks;
+use nr_bitvec::{Bits, Marks};
 use nr_harqbuf::merge_word;
 use nr_ratematch::Buffer;
 
@@ -151,4 +154,58 @@ pub(crate) fn gather_part(
     }
     part_masks.heard.zero();
     false
+}
+
+// Sets the bits of a list from bit `at` on that are set in the `count` lowest bits of `now`.
+fn mark_word(list: &mut Bits, at: usize, count: usize, now: u64)
+    requires count { count ≤ 64 }
+    requires inside { at + count ≤ length list.old.items }
+    ensures items { (p : ℕ) → bit list.new.items p
+        ≡ (bit list.old.items p || (nat_le at p && nat_lt p (at + count) && (bit_at now (p - at) == 1))) }
+    ensures long { length list.new.items ≡ length list.old.items }
+{
+    let before = list.window(at);
+    list.put(at, count, before | now);
+}
+
+// Puts the `count` selected bits from bit `k` on into two lists, from position `position` on, if their places are contiguous
+// there. `told.heard` gets the positions that are told zero, and `told.value` those that are told one.
+fn tell_run(selected: &Selected, k: usize, position: usize, count: usize, told: &mut Marks)
+    requires inside { position + count ≤ length told.old.heard.items }
+    requires selected { k + count ≤ length selected.now.value.items }
+    ensures told { (b : Circular) (rv : ℕ) → ((j : ℕ) → j < count → place_of b rv (k + j) ≡ position + j)
+        → (p : ℕ) (v : Bool) → is_listed (marks_in told.new) p v ≡ (is_listed (marks_in told.old) p v
+        || list_any (bit_says b rv (received_marks selected.now) selected.now.value.items p v) (range_with_len k count)) }
+    ensures long { length told.new.heard.items ≡ length told.old.heard.items }
+{
+    // Lists have at most 2^24 bits, as `len` says: so no place overflows.
+    let (_, _) = (told.heard.len(), selected.value.len());
+    let mut at = 0;
+    while at < count {
+        let some = (count - at).min(64 - (position + at) % 64);
+        let now = selected.marks(k + at);
+        let bits = selected.value.window(k + at);
+        mark_word(&mut told.heard, position + at, some, now & !bits);
+        mark_word(&mut told.value, position + at, some, now & bits);
+        at += some;
+    }
+}
+
+// Puts the selected bits of a code block into two lists, as `tell_run` does. A position that is told both bits is in both.
+pub(crate) fn gather_told(buffer: &Buffer, rv: u32, selected: &Selected, told: &mut Marks)
+    requires version { rv < 4 }
+    requires empty { AreEmpty (positions_on buffer.now) told.old }
+    ensures told { (p : ℕ) (v : Bool) → is_listed (marks_in told.new) p v
+        ≡ list_any (bit_says buffer.now rv (received_marks selected.now) selected.now.value.items p v)
+        (range_with_len 0 (length selected.now.value.items)) }
+    ensures long { length told.new.heard.items ≡ positions_on buffer.now }
+{
+    told.value.zero();
+    let count = selected.value.len() as u32;
+    let mut k = 0;
+    while k < count {
+        let (position, run) = buffer.run(rv, k, count - k);
+        tell_run(selected, k as usize, position as usize, run as usize, told);
+        k += run;
+    }
 }

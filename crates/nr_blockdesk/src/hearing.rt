@@ -4,7 +4,7 @@
 ghost use Rattle.std.specs.Prelude.{◌≡◌, ◌≢◌, ℕ, ◌^◌, ◌<◌, ◌≤◌};
 ghost use Rattle.std.specs.Prelude.{false, length, slice_index, slice_index_or, List};
 ghost use Rattle.nr_bitvec.specs.{Bit.bit, Marks.marks_in};
-ghost use Rattle.nr_harqbuf.specs.{Marks.AreMarks, Record.Hearing, Record.HeardBits};
+ghost use Rattle.nr_harqbuf.specs.{Marks.AreMarks, Marks.merge_of, Record.Hearing, Record.HeardBits};
 ghost use Rattle.nr_peel.specs.Peeling.{checks_for};
 ghost use Rattle.nr_blockdesk.specs.{Heard.heard_of, Link.Link, Marks.heards, inside.PartMasks.AreEmpty};
 ghost use Rattle.nr_blockdesk.specs.inside.Words.{HasRoomFor, heards_of, positions_on};
@@ -13,10 +13,10 @@ ghost use Rattle.nr_blockdesk.specs.declared.code_block.CodeBlock.{CodeBlock};
 
 use crate::arrival::Arrival;
 use crate::code_block::CodeBlock;
-use crate::gather_part::gather_part;
+use crate::gather_part::{gather_part, gather_told};
 use crate::laws;
 use crate::part::Part;
-use crate::part_masks::has_no_mark;
+use crate::part_masks::{has_no_mark, settle};
 use crate::place_cursors::PlaceCursors;
 use crate::selected::Selected;
 use nr_bitvec::Marks;
@@ -51,8 +51,39 @@ fn store_part(
     if gather_part(buffer, tx.rv, selected, part_masks) {
         absorb(part_masks, store)
     } else {
-        store_by_places(part, store, part_masks)
+        store_firsts(part, store, part_masks, selected)
     }
+}
+
+// Receives a part that tells a position both bits, as `store_part` does: only the places of such positions are looked at one by
+// one. The store has a clash after it has received both bits of one of them again.
+fn store_firsts(
+    part: &Part<'_, '_>,
+    store: &mut Store,
+    part_masks: &mut Marks,
+    selected: &mut Selected,
+) -> bool
+    requires long { length store.old.first ≡ positions_on part.now.arrival.now.buffer.now }
+    requires empty { AreEmpty (positions_on part.now.arrival.now.buffer.now) part_masks.old }
+    requires room { HasRoomFor part.now.count selected.old }
+    ensures stored { StoresPart part.now.arrival.now.buffer.now part.now.arrival.now.tx.now (heards_of part.now)
+        store.old store.new }
+    ensures news { HasNews (positions_on part.now.arrival.now.buffer.now) store.old store.new part_masks.new }
+    ensures none { result ≡ false → (p : ℕ) → bit part_masks.new.heard.items p ≡ false }
+    ensures room { (n : ℕ) → HasRoomFor n selected.old → HasRoomFor n selected.new }
+{
+    let Arrival { buffer, tx, .. } = part.arrival;
+    selected.load(part);
+    gather_told(buffer, tx.rv, selected, part_masks);
+    let both = settle(part, part_masks);
+    // A position is told if it is told zero or one.
+    part_masks.heard.union_with(&part_masks.value);
+    let any = absorb(part_masks, store);
+    if let Some(pos) = both {
+        store.hear(pos, false);
+        store.hear(pos, true);
+    }
+    any
 }
 
 // Takes the masks of a part into a store. Of the marks those of positions received for the first time stay. Returns whether
@@ -62,6 +93,7 @@ fn absorb(part_masks: &mut Marks, store: &mut Store) -> bool
     ensures stored { (more : List Hearing)
         → AreMarks more (marks_in part_masks.old) → StoresAll more store.old store.new }
     ensures news { HasNews (length part_masks.old.heard.items) store.old store.new part_masks.new }
+    ensures merged { store.new ≡ merge_of store.old (marks_in part_masks.old) }
     ensures none { result ≡ false → (p : ℕ) → bit part_masks.new.heard.items p ≡ false }
 {
     laws::record_merges();

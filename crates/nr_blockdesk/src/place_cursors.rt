@@ -69,6 +69,19 @@ impl PlaceCursors {
         ensures places { place_count qm result ≡ count }
         ensures given { given_count qm result ≡ 0 }
     {
+        PlaceCursors::at_column(qm, count, 0)
+    }
+
+    // Before the first place in column `column` of the matrix of `count` places.
+    pub(crate) fn at_column(qm: u32, count: u32, column: u32) -> PlaceCursors
+        requires some { 0 < qm }
+        requires few { qm ≤ 8 }
+        requires whole { count % qm ≡ 0 }
+        ensures cursors { (b : Circular) (rv : ℕ) → cols_of b.graph * b.z < 2 ^ 32
+            → AreCursors b rv qm result }
+        ensures places { place_count qm result ≡ count }
+        ensures given { given_count qm result ≡ qm * column }
+    {
         let unread = RowCursor {
             position: 0,
             left: 0,
@@ -77,7 +90,7 @@ impl PlaceCursors {
             rows: [unread; MOST_ROWS],
             columns: count / qm,
             row: 0,
-            column: 0,
+            column,
         }
     }
 

@@ -25,6 +25,7 @@ use crate::link::Link;
 use crate::marks::marks_of;
 use crate::outcome::Outcome;
 use crate::part_masks::empty_masks;
+use crate::selected::Selected;
 use crate::{laws, receiver_laws};
 use nr_bitvec::{Bits, Marks};
 use nr_crcattach::attach_into;
@@ -40,8 +41,8 @@ use std::marker::Model;
 /// follows from them. Once every position below K' is known it keeps the codewords of the one transport block
 /// that may explain all. That is one more bit for each position. What a transmission tells of a code block is put
 /// together in two bits for each position of one. It keeps its allocator. `new` takes all memory but what `take` asks
-/// for. That is the delivered transport block, and two bits for each place of a transmission and of its longest code
-/// block.
+/// for. That is the delivered transport block, two bits for each place of a transmission, and two for each place of its
+/// longest code block. The last are kept for the next transmission.
 #[derive(Drop)]
 pub struct Receiver<'t, K: Recording = Recorded> {
     link: Link<'t>,
@@ -50,6 +51,7 @@ pub struct Receiver<'t, K: Recording = Recorded> {
     block: Bits,
     candidate_read: bool,
     part_masks: Marks,
+    selected: Selected,
     alloc: Global,
 }
 
@@ -142,6 +144,7 @@ impl<'t, K: Recording> Receiver<'t, K> {
             block,
             candidate_read: false,
             part_masks,
+            selected: Selected::new(alloc),
             alloc,
         })
     }

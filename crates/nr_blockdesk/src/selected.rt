@@ -1,7 +1,7 @@
 //! What was received of a code block, in the order in which its bits were selected.
 
 ghost use Rattle.std.specs.Prelude.{◌≡◌, ℕ, ◌+◌, ◌%◌, ◌^◌, ◌≤◌, ◌<◌, ◌==◌, length, take, drop};
-ghost use Rattle.std.specs.{Prelude.IfOk, Int.bit_at};
+ghost use Rattle.std.specs.{Prelude.OnOk, Int.bit_at};
 ghost use Rattle.nr_bitvec.specs.Bit.{bit};
 ghost use Rattle.nr_interleave.specs.Interleaving.{interleaving_of};
 ghost use Rattle.nr_blockdesk.specs.inside.Words.{HasRoomFor, received_marks};
@@ -22,18 +22,22 @@ pub(crate) struct Selected {
 }
 
 impl Selected {
-    // Lists that have room for `most` bits.
-    pub(crate) fn new(alloc: Global, most: u32) -> Result<Selected, AllocError>
-        requires { most ≤ 2 ^ 24 }
-        ensures { IfOk result (HasRoomFor most) }
-    {
-        let heard = Bits::with_room(alloc, most)?;
-        let value = Bits::with_room(alloc, most)?;
-        Ok(Selected {
-            heard,
-            value,
+    // Lists without room.
+    pub(crate) fn new(alloc: Global) -> Selected {
+        Selected {
+            heard: Bits::new(alloc),
+            value: Bits::new(alloc),
             whole: false,
-        })
+        }
+    }
+
+    // Asks for memory for `most` bits in each list. What they have is lost.
+    pub(crate) fn make_room(&mut self, alloc: Global, most: u32) -> Result<(), AllocError>
+        requires { most ≤ 2 ^ 24 }
+        ensures { OnOk result (HasRoomFor most self.new) }
+    {
+        make_room(&mut self.heard, alloc, most)?;
+        make_room(&mut self.value, alloc, most)
     }
 
     // Takes up a code block's part.
@@ -66,4 +70,16 @@ impl Selected {
             self.heard.window(k)
         }
     }
+}
+
+// Asks for memory for `most` bits in a list, unless it has it. What it has is lost.
+fn make_room(bits: &mut Bits, alloc: Global, most: u32) -> Result<(), AllocError>
+    requires { most ≤ 2 ^ 24 }
+    ensures { OnOk result (most ≤ length bits.new.items + bits.new.room) }
+{
+    bits.clear();
+    if bits.room() < most {
+        *bits = Bits::with_room(alloc, most)?;
+    }
+    Ok(())
 }

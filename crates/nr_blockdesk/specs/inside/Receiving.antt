@@ -1,17 +1,22 @@
 -- Definitions that only the proofs need, beside those of Receiving.antt.
-use Rattle.std.specs.Prelude.{◌≡◌, ℕ, ◌+◌, ◌/◌, ◌%◌, ◌<◌, ◌≤◌, ◌&&◌, Bool, true, false, not}
-use Rattle.std.specs.Prelude.{Option, Some, option_map, unwrap_or, List, [], ◌++◌, length, map, take, drop, sum, slice_index}
+use Rattle.std.specs.Prelude.{◌≡◌, ℕ, ◌+◌, ◌*◌, ◌/◌, ◌%◌, ◌<◌, ◌≤◌, ◌&&◌, Bool, true, false}
+use Rattle.std.specs.Prelude.{not}
+use Rattle.std.specs.Prelude.{Option, Some, None, option_map, unwrap_or, List, [], ◌++◌, length, map, take, drop, sum}
+use Rattle.std.specs.Prelude.{slice_index}
 use Rattle.std.specs.{Prelude.slice_index_or, Prelude.All, Prelude.IsTrue, List.filter_map, List.range_with_len}
 use Rattle.nr_crcattach.specs.Attachment.{attached_length}
 use Rattle.nr_bitvec.specs.{Bit.bit, BitList.BitList, declared.marks.Marks.Marks}
-use Rattle.nr_harqbuf.specs.Record.{Hearing, HeardBits, HasFirsts, first_at, is_heard, record_of}
+use Rattle.nr_bitvec.specs.Marks as spec
+use Rattle.nr_graphpick.specs.Graph.{cols_of}
+use Rattle.nr_harqbuf.specs.Record.{Hearing, HeardBits, HasFirsts, differs, first_at, first_heard, heard_as, is_heard, record_of}
 use Rattle.nr_interleave.specs.Interleaving.{seat_of}
 use Rattle.nr_ldpcenc.specs.Codeword.{IsPlain}
 use Rattle.nr_segment.specs.{Plan.word_size, Plan.Numbers, CodeBlock.share}
 use Rattle.nr_peel.specs.Peeling.{AgreesWith, IsPeeled, Peeling, checks_for, known_at}
 use Rattle.nr_ratematch.specs.Selection.{Circular, place_of}
 use Rattle.nr_blockdesk.specs.{Explains.heard_at, Heard.heard_of, Hearing.heard_bit, Outcome.ExplainedBy, Outcome.given}
-use Rattle.nr_blockdesk.specs.{Link.IsBlock, Link.IsLink, Link.Link, Link.word, inside.PartMasks.AreEmpty}
+use Rattle.nr_blockdesk.specs.{Link.IsBlock, Link.IsLink, Link.Link, Link.word}
+use Rattle.nr_blockdesk.specs.inside.PartMasks.{AreEmpty, is_listed}
 use Rattle.nr_blockdesk.specs.{Receiving.peelers_of, Receiving.peeling_of, declared.code_block.CodeBlock.CodeBlock}
 use Rattle.nr_blockdesk.specs.declared.heard.Heard.{Heard}
 use Rattle.nr_transmission.specs.declared.tx.Tx.{Tx}
@@ -131,3 +136,15 @@ known_bit p k = unwrap_or (known_at p k) false
 abbrev pub IsRead : Numbers → List Peeling → List Bool → ℕ → Type 0
 IsRead p peelers bits i =
     (d : Peeling) → bit bits i ≡ known_bit (slice_index_or peelers (i / share p) d) (i % share p)
+
+-- The first m places of a part are settled in two lists, of the positions told zero and of those told one: a position that one
+-- of these places tells keeps only the bit told first. Of each other one the lists have what all places tell. `both` is a
+-- position that all places tell both bits; if there is none, the lists have what all places tell.
+pub record AreSettled (b : Circular) (tx : Tx) (heard : List Heard) (m : ℕ) (told : spec.Marks) (both : Option ℕ) : Type 0 where
+  pub is : (p : ℕ) (v : Bool) → is_listed told p v ≡ (heard_as (part_hearings b tx heard (length heard)) p v
+      && not (differs (first_heard (part_hearings b tx heard m) p) v))
+  pub clash : (q : ℕ) → both ≡ Some q
+      → (q < length told.at) × ((v : Bool) → heard_as (part_hearings b tx heard (length heard)) q v ≡ true)
+  pub none : both ≡ None → (p : ℕ) (v : Bool)
+      → is_listed told p v ≡ heard_as (part_hearings b tx heard (length heard)) p v
+  pub long : length told.at ≡ cols_of b.graph * b.z

@@ -1,17 +1,17 @@
 //! Putting a receiver back to what another one has received.
 
-ghost use Rattle.std.specs.Prelude.{◌≡◌, IfOk, IfErr, length};
+ghost use Rattle.std.specs.Prelude.{◌≡◌, ℕ, ◌<◌, IfOk, IfErr, length};
+ghost use Rattle.nr_blockdesk.specs.Heard.{heard_of};
 
 use super::Receiver;
 use crate::code_block::code_blocks_again;
 use nr_harqbuf::Store;
 use nr_peel::Recording;
 use nr_transmission::DeskFault;
-use std::alloc::AllocError;
 
 impl<'t, K: Recording> Receiver<'t, K> {
     /// This receiver, which has now received what another one over its link has, and nothing else. It goes on with its own
-    /// peelers and lists. No clause says what that costs; `over` takes their memory and sweeps the parity rows.
+    /// stores, peelers and lists. No clause says what that costs; `over` takes their memory and sweeps the parity rows.
     ///
     /// # Errors
     ///
@@ -27,10 +27,11 @@ impl<'t, K: Recording> Receiver<'t, K> {
             code_blocks,
             block,
             part_masks,
+            selected,
             alloc,
             ..
         } = self;
-        let stores = stores_again(stores, &from.stores)?;
+        let stores = stores_again(stores, &from.stores);
         let code_blocks = code_blocks_again(code_blocks, &from.code_blocks)?;
         Ok(Receiver {
             link,
@@ -40,19 +41,21 @@ impl<'t, K: Recording> Receiver<'t, K> {
             // A candidate that was read is read anew at the next transmission.
             candidate_read: false,
             part_masks,
+            selected,
             alloc,
         })
     }
 }
 
 // Stores in which the same was heard as in others.
-fn stores_again(mut stores: Vec<Store>, from: &[Store]) -> Result<Vec<Store>, AllocError>
-    requires { length stores.items ≡ length from.now }
-    ensures { IfOk result (λ copies. copies.items ≡ from.now) }
+fn stores_again(mut stores: Vec<Store>, from: &[Store]) -> Vec<Store>
+    requires many { length stores.items ≡ length from.now }
+    requires long { (r : ℕ) → r < length from.now
+        → length (heard_of stores.items r).first ≡ length (heard_of from.now r).first }
+    ensures { result.items ≡ from.now }
 {
     for r in 0..from.len() {
-        let store = from[r].try_clone()?;
-        stores[r] = store;
+        stores[r].copy_from(&from[r]);
     }
-    Ok(stores)
+    stores
 }

@@ -48,7 +48,8 @@ impl<'t, K: Recording> Receiver<'t, K> {
     {
         let lengths = link.heard_lengths(tx, marks.heard.len())?;
         let list = Bits::with_room(alloc, link.a())?;
-        let mut selected = Selected::new(alloc, longest(&lengths))?;
+        let mut selected = Selected::new(alloc);
+        selected.make_room(alloc, longest(&lengths))?;
         let mut part_masks = empty_masks(alloc, link.plan())?;
         link.is_sound();
         laws::accepted_are_matched();

@@ -7,7 +7,6 @@ use super::Receiver;
 use crate::arrival::Arrival;
 use crate::hearing::hear;
 use crate::outcome::Outcome;
-use crate::selected::Selected;
 use crate::sender::longest;
 use crate::{laws, receiver_laws};
 use nr_bitvec::{Bits, Marks};
@@ -28,7 +27,7 @@ impl<'t, K: Recording> Receiver<'t, K> {
         let lengths = self.link.heard_lengths(tx, marks.heard.len())?;
         // Asked for before anything is heard: later nothing may fail. Not written, since nearly all answers are `Open`.
         let list = Bits::with_room(self.alloc, self.link.a())?;
-        let mut selected = Selected::new(self.alloc, longest(&lengths))?;
+        self.selected.make_room(self.alloc, longest(&lengths))?;
         laws::accepted_are_matched();
         laws::parts_are_at();
         laws::places_have_one_owner();
@@ -50,7 +49,7 @@ impl<'t, K: Recording> Receiver<'t, K> {
             &mut self.stores,
             &mut self.code_blocks,
             &mut self.part_masks,
-            &mut selected,
+            &mut self.selected,
         );
         Ok(self.answer(list))
     }

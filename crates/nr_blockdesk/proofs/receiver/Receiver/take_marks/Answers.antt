@@ -38,9 +38,9 @@ returns-in_err-list g c =
     let ok = accepted g (goal.at.returns-in_err-list g c).In_ok-lengths in
     grind (arith, err_from_is_err_and, takes-memory, ok)
 
-pub returns-in_err-selected : goal.returns-in_err-selected
-returns-in_err-selected g c =
-    let ok = accepted g (goal.at.returns-in_err-selected g c).In_ok-lengths in
+pub returns-in_err-make_room : goal.returns-in_err-make_room
+returns-in_err-make_room g c =
+    let ok = accepted g (goal.at.returns-in_err-make_room g c).In_ok-lengths in
     grind (arith, err_from_is_err_and, takes-memory, ok)
 
 pub hear-requires-clause-room : goal.hear-requires-clause-room
@@ -127,11 +127,11 @@ module _ (g : given.Over) (c : After-hear g) where
       c.in_ok-lengths.ensures.whole many (λ r block. (are r (no_block link) block).stored)
 
 -- stores, peelers and candidate still belong together
-pub invariant_of-self : goal.invariant_of-self
-invariant_of-self g c =
+pub invariant_of-self-2 : goal.invariant_of-self-2
+invariant_of-self-2 g c =
     let s = c.self.inside in
     let inv = c.self.invariant in
-    let h = (goal.at.invariant_of-self g c).After-hear in
+    let h = (goal.at.invariant_of-self-2 g c).After-hear in
     record {
       is_link = inv.is_link;
       desk = rw (kept g h, kept-too g h)
