@@ -26,10 +26,12 @@
 
    Allocations. A function frees what it allocates before it returns. With C code blocks and T transmissions it allocates about
    this often: nr_crc once, nr_select and nr_interleave 2 times, nr_cut and nr_match 3, nr_encode 5, nr_codeword 6, nr_join C + 2;
-   nr_send C + 9, nr_send_packed C + 10, nr_send_many 5, and C + 2 T + 3 for each block; nr_receive 8 C + 5 T + 11,
-   nr_receive_packed 8 C + 7 T + 11, nr_receive_many 16 C + 15, and 2 C + 5 T + 2 for each block; nr_receiver_start 8 C + 10 and
-   nr_receiver_take 8 C + 18. Of these a copy of the table is 4, with 40 octets an entry, the receiver of a code block 8, with about
-   2.5 octets for each of its N + 2 Zc codeword bits, and a transmission 5, with about A / 8 + G / 4 + G / 4 C octets.
+   nr_send C + 9, nr_send_packed C + 10, nr_send_many 5, and C + 2 T + 3 for each block; nr_receive 8 C + T + 15,
+   nr_receive_packed 8 C + 5 T + 13, nr_receive_many 16 C + 23, and T for each block; nr_receiver_start 8 C + 10 and
+   nr_receiver_take 8 C + 18. Of these a copy of the table is 4, with 40 octets an entry, and the receiver of a code block 8, with
+   about 2.5 octets for each of its N + 2 Zc codeword bits. A transmission is 1, with A / 8 octets. The 4 with which received places
+   are marked, about G / 4 + G / 4 C octets, serve all transmissions, unless a later one is longer; nr_receive_packed asks for 4
+   more for each.
 
    Structs. Set members called `reserved` to 0, as by {.g = 300, .qm = 2, .nl = 1}. A later version may give them a meaning, and 0
    will then mean what this version does. */

@@ -282,9 +282,9 @@ int main(int count, char **words) {
     sweep("nr_interleave", interleaving, NR_OK, 2);
     sweep("nr_match", matching, NR_OK, 3);
     sweep("nr_send", send, NR_OK, 10);
-    sweep("nr_receive", receive, NR_OK, 29);
+    sweep("nr_receive", receive, NR_OK, 25);
     sweep("nr_send_packed", send_packed, NR_OK, 11);
-    sweep("nr_receive_packed", receive_packed, NR_OK, 33);
+    sweep("nr_receive_packed", receive_packed, NR_OK, 31);
     sweep("nr_simulate", simulate, NR_OK, 39);
     for (int k = 0; k < 2; k++) {
         memcpy(two_blocks + k * OCTETS, block, OCTETS);
@@ -293,7 +293,7 @@ int main(int count, char **words) {
     sweep("nr_send_many", send_many, NR_OK, 17);
     CHECK(refusing(receive_many, 0, 0) == NR_OK && met <= 40);
     rows = 2;
-    sweep("nr_receive_many", receive_many, NR_OK, 49);
+    sweep("nr_receive_many", receive_many, NR_OK, 41);
     CHECK(nr_receiver_start(table, table_len, &settings, 8 * OCTETS, begun, KEPT) == NR_OK);
     sweep("nr_receiver_start", start, NR_OK, 18);
     sweep("nr_receiver_take", take, NR_OK, 26);

@@ -26,6 +26,7 @@ mod DrawnPartFacts
 mod BatchHearFacts
 mod BatchRoundFacts
 mod ManyFacts
+mod FoundRowFacts
 mod ManySentFacts
 mod PackedFacts
 mod TableFacts

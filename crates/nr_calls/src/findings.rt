@@ -1,12 +1,13 @@
 //! What is decoded over the transmissions of a transport block, and writing it to a caller's memory.
 
-ghost use Rattle.std.specs.Prelude.{◌≡◌, true};
+ghost use Rattle.std.specs.Prelude.{◌≡◌, length, true};
 ghost use Rattle.nr_blockdesk.specs.Receiving.{verdict};
-ghost use Rattle.nr_calls.specs.Findings.{AreWritten, is_room, outcome_number, places, room_in};
-ghost use Rattle.nr_calls.specs.inside.Words.{findings_of, has_room};
+ghost use Rattle.nr_calls.specs.Findings.{AreWritten, IsHandedUp, is_room, outcome_number, places, room_in};
+ghost use Rattle.nr_calls.specs.inside.Words.{block_fits, findings_of, has_room};
 
 use crate::crossing::write_octets;
 use nr_blockdesk::Outcome;
+use std::alloc::Global;
 
 // What is found over some transmissions: the number of the outcome after each of them, and the outcome at last. It says
 // too how many positions below K' of each code block are left after the last.
@@ -35,6 +36,15 @@ impl Room {
 }
 
 impl Found {
+    // Nothing is found, and no memory is taken.
+    pub(crate) fn none(alloc: Global) -> Found {
+        Found {
+            outcomes: Vec::new(alloc),
+            left: Vec::new(alloc),
+            last: Outcome::Open,
+        }
+    }
+
     // Writes all of it.
     pub(crate) fn write(&self, outcomes: &mut [u32], left: &mut [u32], block: &mut [u8])
         requires { has_room (room_in (places outcomes.old left.old block.old))
@@ -44,9 +54,17 @@ impl Found {
     {
         outcomes.copy_from_slice(&self.outcomes);
         left.copy_from_slice(&self.left);
-        if let Outcome::Delivered(bits) = &self.last {
-            write_octets(bits, block);
-        }
+        hand_up(&self.last, block);
+    }
+}
+
+// Writes a block that is delivered.
+pub(crate) fn hand_up(outcome: &Outcome, block: &mut [u8])
+    requires { block_fits (length block.old) (verdict outcome.now) ≡ true }
+    ensures { IsHandedUp (verdict outcome.now) block.old block.new }
+{
+    if let Outcome::Delivered(bits) = outcome {
+        write_octets(bits, block);
     }
 }
 

@@ -1,7 +1,7 @@
 //! Receiving several transport blocks of one size over one list of transmissions, with the table read once.
 
-ghost use Rattle.std.specs.Prelude.{◌≡◌, ◌*◌, ◌^◌, ◌<◌, ◌≤◌, false, Err, IfOk, IsTrue, MatchResult, Ok};
-ghost use Rattle.std.specs.Prelude.{length};
+ghost use Rattle.std.specs.Prelude.{◌≡◌, ◌*◌, ◌^◌, ◌<◌, ◌≤◌, ◌++◌, ◌∷◌, [], false, Err, IfOk};
+ghost use Rattle.std.specs.Prelude.{length, IsTrue, MatchResult, Ok, OnOk};
 ghost use Rattle.nr_refusal.specs.Refusal.{Gives};
 ghost use Rattle.nr_shifttable.specs.Accepted.{IsTable};
 ghost use Rattle.nr_calls.specs.Crossing.{settings_in};
@@ -14,13 +14,15 @@ ghost use Rattle.nr_calls.specs.Statuses.{Returns, memory_anywhere};
 use crate::crossing::{NrSettings, NrTx};
 use crate::entries::{NrEntry, table_by};
 use crate::fault::Fault;
-use crate::findings::{Found, Room};
+use crate::findings::{Found, Room, hand_up};
 use crate::linking::link_on;
+use crate::marks::no_marks;
 use crate::plan::plan_on;
 use crate::receiving::{hear_all, receiver_again, receiver_over};
-use nr_blockdesk::{DeskFault, Settings};
+use nr_blockdesk::{DeskFault, Outcome, Settings};
 use nr_shifttable::Table;
-use std::alloc::Global;
+use std::alloc::{AllocError, Global};
+use std::mem::replace;
 
 // The most transmissions of a block.
 pub(crate) const MOST_TRANSMISSIONS: usize = 1000;
@@ -32,11 +34,14 @@ pub(crate) struct ManyRoom {
     all: Room,
 }
 
-// What is found of each block, and how much room each has in its caller's places.
+// What is found of each block, and how much room each has in its caller's places. Of each it is a row of outcomes, a row
+// of how much is left, and the last outcome.
 #[derive(Drop)]
 pub(crate) struct ManyFound {
     pub(crate) each: Room,
-    pub(crate) found: Vec<Found>,
+    pub(crate) outcomes: Vec<u32>,
+    pub(crate) left: Vec<u32>,
+    pub(crate) last: Vec<Outcome>,
 }
 
 impl ManyRoom {
@@ -142,13 +147,15 @@ fn receive_many_by(
     let link = link_on(table, settings, a)?;
     let mut receiver = receiver_over(alloc, link.again())?;
     let first = &receiver_over(alloc, link)?;
-    let mut found = Vec::with_capacity(alloc, room.count)?;
+    let mut many = ManyFound::with_room(alloc, each, room)?;
+    let (mut marks, mut found) = (no_marks(alloc), Found::none(alloc));
     for k in 0..room.count {
         let row = &octets[k * places..k * places + places];
         receiver = receiver_again(receiver, first)?;
-        found.push_reserved(hear_all(alloc, &mut receiver, txs, row)?);
+        found = hear_all(alloc, &mut receiver, txs, row, &mut marks, found)?;
+        many.add(&mut found)?;
     }
-    Ok(ManyFound { each, found })
+    Ok(many)
 }
 
 // How many places some transmissions have.
@@ -166,23 +173,52 @@ pub(crate) fn places_sent(txs: &[NrTx]) -> usize
 }
 
 impl ManyFound {
-    // Writes all of it, each block's in its row.
+    // Nothing is found yet, and there is room for all.
+    fn with_room(alloc: Global, each: Room, room: ManyRoom) -> Result<ManyFound, AllocError>
+        ensures each { IfOk result (λ many. many.each ≡ each) }
+        ensures outcomes { IfOk result (λ many. many.outcomes.items ≡ []) }
+        ensures left { IfOk result (λ many. many.left.items ≡ []) }
+        ensures last { IfOk result (λ many. many.last.items ≡ []) }
+    {
+        let outcomes = Vec::with_capacity(alloc, room.all.outcomes)?;
+        let left = Vec::with_capacity(alloc, room.all.left)?;
+        let last = Vec::with_capacity(alloc, room.count)?;
+        Ok(ManyFound {
+            each,
+            outcomes,
+            left,
+            last,
+        })
+    }
+
+    // Adds what is found of the next block, whose outcome is taken.
+    fn add(&mut self, found: &mut Found) -> Result<(), AllocError>
+        ensures each { self.new.each ≡ self.old.each }
+        ensures outcomes { OnOk result
+            (self.new.outcomes.items ≡ self.old.outcomes.items ++ found.old.outcomes.items) }
+        ensures left { OnOk result (self.new.left.items ≡ self.old.left.items ++ found.old.left.items) }
+        ensures last { OnOk result (self.new.last.items ≡ self.old.last.items ++ found.old.last ∷ []) }
+    {
+        self.outcomes.extend_from_slice(&found.outcomes)?;
+        self.left.extend_from_slice(&found.left)?;
+        let last = replace(&mut found.last, Outcome::Open);
+        match self.last.push(last) {
+            Ok(()) => Ok(()),
+            Err(_) => Err(AllocError),
+        }
+    }
+
+    // Writes all of it, each block in its row.
     fn write(&self, outcomes: &mut [u32], left: &mut [u32], blocks: &mut [u8])
         requires { FillEach (room_in (places outcomes.old left.old blocks.old)) self.now }
         ensures { AreAllWritten blocks.old (many_findings_of self.now)
             (places outcomes.new left.new blocks.new) }
     {
-        let Room {
-            outcomes: t,
-            left: c,
-            block: b,
-        } = self.each;
-        for k in 0..self.found.len() {
-            self.found[k].write(
-                &mut outcomes[k * t..k * t + t],
-                &mut left[k * c..k * c + c],
-                &mut blocks[k * b..k * b + b],
-            );
+        outcomes.copy_from_slice(&self.outcomes);
+        left.copy_from_slice(&self.left);
+        let size = self.each.block;
+        for k in 0..self.last.len() {
+            hand_up(&self.last[k], &mut blocks[k * size..k * size + size]);
         }
     }
 }

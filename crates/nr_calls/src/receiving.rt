@@ -21,7 +21,7 @@ use crate::fault::Fault;
 use crate::findings::{Found, Room, outcome_number};
 use crate::laws;
 use crate::linking::{LinkParams, judge_heard, link_on};
-use crate::marks::marks_of;
+use crate::marks::{mark, no_marks};
 use crate::plan::plan_on;
 use nr_bitvec::Marks;
 use nr_blockdesk::{DeskFault, Link, Outcome, Receiver, Tx, Unrecorded};
@@ -97,7 +97,15 @@ pub(crate) fn receive_over(
     ensures block { IfOk result (λ found. IsLastBlock link.entry.a (verdict found.last)) }
 {
     let mut receiver = receiver_over(alloc, link)?;
-    hear_all(alloc, &mut receiver, txs, octets)
+    let found = Found::none(alloc);
+    hear_all(
+        alloc,
+        &mut receiver,
+        txs,
+        octets,
+        &mut no_marks(alloc),
+        found,
+    )
 }
 
 // A receiver that is put back to another one over its link, which has received nothing yet. Memory alone refuses it.
@@ -133,12 +141,15 @@ pub(crate) fn receiver_over<'t>(
 }
 
 // What is found over some transmissions by a receiver that has received nothing yet. The places are those of one
-// transmission after the other.
+// transmission after the other, and each transmission's are marked in the same memory. The lists are those of what was
+// found before, which is lost.
 pub(crate) fn hear_all(
     alloc: Global,
     receiver: &mut Receiver<'_, Unrecorded>,
     txs: &[NrTx],
     octets: &[u8],
+    marks: &mut Marks,
+    before: Found,
 ) -> Result<Found, Fault>
     requires sound { IsLink receiver.old.link }
     requires empty { IsRecordOf receiver.old.link [] receiver.old.heard }
@@ -151,7 +162,12 @@ pub(crate) fn hear_all(
 {
     laws::nothing_is_open();
     laws::delivered_is_only();
-    let mut outcomes = Vec::new(alloc);
+    let Found {
+        mut outcomes,
+        left,
+        ..
+    } = before;
+    outcomes.clear();
     let mut last = Outcome::Open;
     let (mut later, mut places) = (txs, octets);
     while let Some((tx, rest)) = later.split_first() {
@@ -160,14 +176,14 @@ pub(crate) fn hear_all(
             return Err(Fault::Desk(DeskFault::Length));
         }
         let (heard, after) = places.split_at(g);
-        last = hear_next(alloc, receiver, &tx.tx(), heard, &mut outcomes)?;
+        last = hear_next(alloc, receiver, &tx.tx(), heard, marks, &mut outcomes)?;
         later = rest;
         places = after;
     }
     if !places.is_empty() {
         return Err(Fault::Desk(DeskFault::Length));
     }
-    let left = left_of(alloc, receiver)?;
+    let left = left_in(left, receiver)?;
     Ok(Found {
         outcomes,
         left,
@@ -183,8 +199,17 @@ pub(crate) fn left_of(
     ensures { IfOk result
         (λ left. left.items ≡ lefts receiver.now.link receiver.now.heard) }
 {
+    left_in(Vec::new(alloc), receiver)
+}
+
+// The same in a list whose items are lost.
+fn left_in(mut left: Vec<u32>, receiver: &Receiver<'_, Unrecorded>) -> Result<Vec<u32>, AllocError>
+    ensures { IfOk result
+        (λ left. left.items ≡ lefts receiver.now.link receiver.now.heard) }
+{
     let count = block_count(receiver);
-    let mut left = Vec::with_capacity(alloc, count as usize)?;
+    left.clear();
+    left.reserve(count as usize)?;
     for r in 0..count {
         left.push_reserved(receiver.left(r));
     }
@@ -204,6 +229,7 @@ fn hear_next(
     receiver: &mut Receiver<'_, Unrecorded>,
     tx: &Tx,
     octets: &[u8],
+    marks: &mut Marks,
     outcomes: &mut Vec<u32>,
 ) -> Result<Outcome, Fault>
     ensures link { receiver.new.link ≡ receiver.old.link }
@@ -222,7 +248,7 @@ fn hear_next(
         → outcomes.new.items ≡ outcomes_of receiver.old.link
         (list ++ reception tx.now (map heard_octet octets.now) ∷ [])) }
 {
-    let outcome = hear(alloc, receiver, tx, octets)?;
+    let outcome = hear(alloc, receiver, tx, octets, marks)?;
     let noted = noted(outcomes, outcome)?;
     Ok(noted)
 }
@@ -239,12 +265,13 @@ pub(crate) fn noted(outcomes: &mut Vec<u32>, outcome: Outcome) -> Result<Outcome
     }
 }
 
-// The outcome after one more transmission.
-pub(crate) fn hear(
+// The outcome after one more transmission, whose places are marked in `marks`.
+fn hear(
     alloc: Global,
     receiver: &mut Receiver<'_, Unrecorded>,
     tx: &Tx,
     octets: &[u8],
+    marks: &mut Marks,
 ) -> Result<Outcome, Fault>
     ensures link { receiver.new.link ≡ receiver.old.link }
     ensures refused { RefusesAs Fault.Memory result (with_fault Fault.Desk
@@ -262,8 +289,8 @@ pub(crate) fn hear(
         (reception tx.now (map heard_octet octets.now))) }
 {
     judge_heard(receiver.link(), tx, octets.len())?;
-    let marks = marks_of(alloc, octets)?;
-    take_marks(receiver, tx, &marks)
+    mark(marks, alloc, octets)?;
+    take_marks(receiver, tx, marks)
 }
 
 // The outcome after what marks say was received of one more transmission.

@@ -5,8 +5,7 @@ ghost use Rattle.nr_blockdesk.specs.Receiving.{verdict};
 ghost use Rattle.nr_calls.specs.{Findings.IsHandedUp, Findings.outcome_number, inside.Words.planned_of, inside.Words.taken_room};
 ghost use Rattle.nr_calls.specs.Keeping.{is_kept_room, kept_places, kept_room};
 
-use crate::crossing::write_octets;
-use crate::findings::outcome_number;
+use crate::findings::{hand_up, outcome_number};
 use crate::rooms::room_length;
 use nr_blockdesk::Outcome;
 use nr_segment::Plan;
@@ -58,8 +57,6 @@ impl Taken {
         room.copy_from_slice(&self.room);
         left.copy_from_slice(&self.left);
         *outcome = outcome_number(&self.last);
-        if let Outcome::Delivered(bits) = &self.last {
-            write_octets(bits, block);
-        }
+        hand_up(&self.last, block);
     }
 }

@@ -2,7 +2,7 @@
 use Rattle.std.specs.Prelude.{ℕ, ◌<◌, slice_index_or, nat_le, if◌then◌else◌, ◌≡◌, ◌⊎◌, ◌*◌, ◌==◌}
 use Rattle.std.specs.Prelude.{◌&&◌, Bool, true, List}
 use Rattle.std.specs.Prelude.{length, map, flat_map, ◌++◌, Option, Some, None, Result, Ok, Err, [], ◌∷◌}
-use Rattle.std.specs.Int.{bit_at}
+use Rattle.std.specs.{Int.bit_at, List.range_with_len}
 use Rattle.nr_segment.specs.CodeBlock.{numbers}
 use Rattle.nr_graphpick.specs.declared.Graph.{Graph}
 use Rattle.nr_graphpick.specs.declared.Graph.TheVariants.{One, Two}
@@ -27,7 +27,7 @@ use Rattle.nr_calls.specs.declared.taken.Taken.{Taken}
 use Rattle.nr_calls.specs.declared.findings.Found.{Found}
 use Rattle.nr_calls.specs.declared.findings.Room.{Room}
 use Rattle.nr_bitvec.specs.BitList.{BitList}
-use Rattle.nr_calls.specs.Many.{ManyFindings}
+use Rattle.nr_calls.specs.Many.{ManyFindings, nth_row}
 use Rattle.nr_calls.specs.Plan.{Planned}
 use Rattle.nr_calls.specs.declared.many.ManyFound.{ManyFound}
 use Rattle.nr_calls.specs.declared.fault.Fault.{Fault}
@@ -68,17 +68,30 @@ has_room room f = (length f.outcomes == room.outcomes) && (length f.left == room
 abbrev pub joined : List BitList → List Bool
 joined lists = flat_map (λ (b : BitList). b.items) lists
 
+-- what rows of outcomes, rows of what is left and the last outcomes say is found of block k
+abbrev pub row_found : Room → List ℕ → List ℕ → List Verdict → ℕ → Findings
+row_found each outcomes left lasts k = record {
+  outcomes = nth_row each.outcomes k outcomes;
+  left = nth_row each.left k left;
+  last = slice_index_or lasts k open_still;
+}
+
+-- what they say of each block
+abbrev pub rows_found : Room → List ℕ → List ℕ → List Verdict → List Findings
+rows_found each outcomes left lasts = map (row_found each outcomes left lasts) (range_with_len 0 (length lasts))
+
 -- what a call has found of each block
 abbrev pub many_findings_of : ManyFound → ManyFindings
-many_findings_of m = record { each = m.each; found = map findings_of m.found.items }
+many_findings_of m =
+    record { each = m.each; found = rows_found m.each m.outcomes.items m.left.items (map verdict m.last.items) }
 
--- what is found of each block fills its room, and all of it fills the caller's
+-- what is found of all blocks fills the caller's room, and each block that is delivered its own
 pub record FillEach (all : Room) (m : ManyFound) : Type 0 where
-  pub outcomes : all.outcomes ≡ length m.found.items * m.each.outcomes
-  pub left : all.left ≡ length m.found.items * m.each.left
-  pub block : all.block ≡ length m.found.items * m.each.block
-  pub filled : (k : ℕ) (d : Found) → k < length m.found.items
-      → has_room m.each (findings_of (slice_index_or m.found.items k d)) ≡ true
+  pub outcomes : all.outcomes ≡ length m.outcomes.items
+  pub left : all.left ≡ length m.left.items
+  pub block : all.block ≡ length m.last.items * m.each.block
+  pub filled : (k : ℕ) (d : Verdict) → k < length m.last.items
+      → block_fits m.each.block (slice_index_or (map verdict m.last.items) k d) ≡ true
 
 -- the base graph and the numbers of a plan
 abbrev pub planned_of : Plan → Planned

@@ -1,6 +1,6 @@
 use Rattle.nr_calls.proofs.Common.{◌≡◌, ◌+◌, ◌≤◌, map, range_with_len, left}
 use Rattle.std.specs.Prelude.{vec_len, vec_capacity}
-use Rattle.nr_calls.proofs.receiving.left_of.Given as goal
+use Rattle.nr_calls.proofs.receiving.left_in.Given as goal
 
 -- how much of the code blocks so far is left
 abbrev pub invariant-loop-r : goal.invariant-loop-r

@@ -1,5 +1,5 @@
 use Rattle.nr_calls.proofs.Common.{◌≡◌, ◌+◌, ◌*◌, ◌≤◌, length, map, take, is_digit, is_one}
-use Rattle.nr_calls.proofs.marks.marks_of.Given as goal
+use Rattle.nr_calls.proofs.marks.push_marks.Given as goal
 
 -- what the words of octets so far say
 abbrev pub invariant-loop-i : goal.invariant-loop-i

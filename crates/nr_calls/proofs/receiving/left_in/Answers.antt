@@ -1,5 +1,5 @@
 use Rattle.nr_calls.proofs.{Common.arith, OutcomeListFacts.lefts_more}
-use Rattle.nr_calls.proofs.receiving.left_of.Goals as goal
+use Rattle.nr_calls.proofs.receiving.left_in.Goals as goal
 
 pub loop-r-preserved : goal.loop-r-preserved
 loop-r-preserved c = record {
