@@ -1,70 +1,37 @@
-"""The steps of peeling: which check row fixes which position, one unknown at a time."""
+"""The check rows of a code block, and the steps of peeling: which row fixes which position, one unknown at a time."""
 
 from __future__ import annotations
 
-import collections
 import functools
 import typing
 
-from nr._table import Table, entries_of
+import nr
 
 from linksim_tools.common.graphs import GRAPHS
-from linksim_tools.conform.case import Row
-
-Steps = typing.List[typing.Tuple[int, int]]
-
-
-class Peeling:
-    """The check rows of a base graph at a lifting size. Row i Zc + t is row t of the base graph's row i (5.3.2)."""
-
-    def __init__(self, rows: list[Row], index: int, z: int, columns: int) -> None:
-        self.z, self.size = z, columns * z
-        self.rows = [[(column, values[index] % z) for column, values in row] for row in rows]
-        self.of_column: list[list[tuple[int, int]]] = [[] for _ in range(columns)]
-        for i, row in enumerate(self.rows):
-            for column, shift in row:
-                self.of_column[column].append((i, shift))
-
-    def positions(self, row: int) -> list[int]:
-        """The positions of a check row."""
-        i, t = divmod(row, self.z)
-        return [column * self.z + (t + shift) % self.z for column, shift in self.rows[i]]
-
-    def rows_of(self, position: int) -> list[int]:
-        """The check rows that hold a position."""
-        column, t = divmod(position, self.z)
-        return [i * self.z + (t - shift) % self.z for i, shift in self.of_column[column]]
-
-    def steps(self, known: bytearray) -> Steps:
-        """The rows, each with the position that it fixes, in an order in which each has one unknown position. What they fix is
-        marked in `known`, which has a 1 for each known position."""
-        # Of each row how many positions are unknown, and their sum: the last one is what is left of it.
-        counts, sums = [0] * (len(self.rows) * self.z), [0] * (len(self.rows) * self.z)
-        for position, is_known in enumerate(known):
-            for row in () if is_known else self.rows_of(position):
-                counts[row] += 1
-                sums[row] += position
-        queue = collections.deque(row for row, count in enumerate(counts) if count == 1)
-        found = []
-        while queue:
-            row = queue.popleft()
-            if counts[row] == 1:
-                position = sums[row]
-                found.append((row, position))
-                known[position] = 1
-                for other in self.rows_of(position):
-                    counts[other] -= 1
-                    sums[other] -= position
-                    if counts[other] == 1:
-                        queue.append(other)
-        return found
+from linksim_tools.conform.receiver.elimination import ones_of
+from linksim_tools.conform.receiver.peeling import Peeler, Rows
 
 
 @functools.lru_cache(maxsize=16)
-def peeling_of(table: Table, graph: int, index: int, z: int) -> Peeling:
-    """The check rows of a table's base graph at a lifting size."""
-    rows: list[Row] = [[] for _ in range(GRAPHS[graph].rows)]
-    for entry in entries_of(table)[0]:
-        if entry.graph == graph:
-            rows[entry.row].append((entry.col, tuple(entry.values)))
-    return Peeling(rows, index, z, GRAPHS[graph].columns)
+def rows_of(table: nr.Table, graph: int, index: int, z: int) -> Rows:
+    """The check rows of a table's base graph at a lifting size. Row i Zc + t is row t of the base graph's row i (5.3.2)."""
+    rows: list[list[tuple[int, int]]] = [[] for _ in range(GRAPHS[graph].rows)]
+    for of, row, column, *values in table.entries:
+        if of == graph:
+            rows[row].append((column, values[index] % z))
+    return Rows(z, GRAPHS[graph].columns, [tuple(it) for it in rows])
+
+
+def steps_of(peeler: Peeler) -> typing.Iterator[list[tuple[int, int]]]:
+    """For each round of peeling, in which all rows see what was known before it: the rows, each with the position that it fixes."""
+    z = peeler.rows.z
+    while True:
+        found = [(number, *it) for number in peeler.hopeful(range(peeler.used)) for it in peeler.singles(number)]
+        steps = []
+        for number, column, places, ones in found:
+            shift = dict(peeler.rows.rows[number])[column]
+            for bit in ones_of(peeler.fix(column, places, ones)):
+                steps.append((number * z + (z - 1 - bit - shift) % z, column * z + z - 1 - bit))
+        if not steps:
+            return
+        yield steps

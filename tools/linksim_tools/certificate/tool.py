@@ -40,12 +40,12 @@ def options() -> argparse.ArgumentParser:
 
 def main() -> int:
     given = options().parse_args()
-    program, words = program_at(given.program), {name: getattr(given, name) for name in faults.READS["run"]}
+    words = {name: getattr(given, name) for name in faults.READS["run"]}
     count = 0
-    for link, one in rounds(program, words):
+    for one in rounds(program_at(given.program), words):
         if given.block not in (None, one.ended.block):
             continue
-        lines = certificate(link.table, 8 * len(one.block), one.receptions, rate2048=link.rate2048, lbrm=link.lbrm)
+        lines = certificate(one.table, 8 * len(one.block), one.receptions(), rate2048=one.rate2048, lbrm=one.lbrm)
         for at, line in enumerate(lines):
             if not at and f'"outcome": "{OUTCOMES[one.ended.outcome]}"' not in line:
                 raise Failed(f"block {one.ended.block}: the library and the program differ in the outcome: {line[:80]}")

@@ -8,8 +8,9 @@ import typing
 
 import nr
 
-from linksim_tools.certificate.steps import Peeling, peeling_of
+from linksim_tools.certificate.steps import rows_of, steps_of
 from linksim_tools.conform import bits as lists
+from linksim_tools.conform.receiver.peeling import Peeler, Rows, columns_of, text_of
 from linksim_tools.table import fingerprint
 
 VERSION = 1
@@ -49,31 +50,32 @@ class Arrived:
 
 
 class CodeBlock:
-    """Code block r: `arrived` has the transmission, the place, the position and the bit of all that arrived of it. `known` marks
-    the positions that are known in the end, `word` has their bits, and `steps` the rows with the positions that they fix."""
+    """Code block r: `arrived` has the transmission, the place, the position and the bit of all that arrived of it. `rounds` has the
+    check rows with the positions that they fix, `word` the bits in the end, and `stuck` a 1 for each that is unknown."""
 
-    def __init__(self, r: int, plan: nr.Plan, peeling: Peeling, received: list[Arrived]) -> None:
+    def __init__(self, r: int, plan: nr.Plan, rows: Rows, received: list[Arrived]) -> None:
         self.r, self.plan = r, plan
         self.arrived = [
             (number, place, one.places[place] - r * plan.n + 2 * plan.z, int(one.text[place]))
             for number, one in enumerate(received, 1)
             for place in range(one.firsts[r], one.firsts[r + 1]) if one.text[place] != "-"
         ]
-        self.known, self.word = bytearray(peeling.size), bytearray(peeling.size)
-        self.known[plan.kdash : plan.k] = b"\1" * (plan.k - plan.kdash)
+        known, word = ["0"] * (rows.columns * plan.z), ["0"] * (rows.columns * plan.z)
+        known[plan.kdash : plan.k] = "1" * (plan.k - plan.kdash)
         for _, _, position, bit in reversed(self.arrived):
-            self.known[position], self.word[position] = 1, bit
-        self.steps = peeling.steps(self.known)
-        for row, position in self.steps:
-            self.word[position] = sum(self.word[it] for it in peeling.positions(row)) % 2
+            known[position], word[position] = "1", str(bit)
+        peeler = Peeler(rows, len(rows.rows), columns_of("".join(known), plan.z), columns_of("".join(word), plan.z))
+        self.rounds = [*steps_of(peeler)]
+        self.steps = [*itertools.chain.from_iterable(self.rounds)]
+        self.word, self.stuck = text_of(peeler.ones, plan.z), text_of(peeler.unknown, plan.z)
 
     def contradiction(self, table: nr.Table, a: int, rate2048: int) -> list[int] | None:
         """A transmission and a place with a bit that the codeword of the fixed bits does not have; or the number of the code block
         if its CRC24B is wrong."""
-        plan, bits = self.plan, self.word[: self.plan.kdash]
-        word = bits[: 2 * plan.z] + nr.codeword(table, bits, a, rate2048=rate2048)
+        plan, bits = self.plan, [*map(int, self.word[: self.plan.kdash])]
+        word = [*bits[: 2 * plan.z], *nr.codeword(table, bits, a, rate2048=rate2048)]
         found = [[number, place] for number, place, position, bit in self.arrived if word[position] != bit]
-        if plan.l and lists.remainder(lists.POLYNOMIALS["CRC24B"], "".join(map(str, bits))):
+        if plan.l and lists.remainder(lists.POLYNOMIALS["CRC24B"], self.word[: plan.kdash]):
             found.append([self.r])
         return next(iter(found), None)
 
@@ -81,10 +83,10 @@ class CodeBlock:
         """What a certificate has of it."""
         line: dict[str, typing.Any] = {"codeblock": self.r}
         line.update({"rows": [row for row, _ in self.steps], "positions": [position for _, position in self.steps]})
-        if 0 in self.known[: self.plan.kdash]:
-            line["stuck"] = [position for position, is_known in enumerate(self.known) if not is_known]
+        if "1" in self.stuck[: self.plan.kdash]:
+            line["stuck"] = [position for position, it in enumerate(self.stuck) if it == "1"]
         if outcome == nr.Outcome.CONTRADICTION:
-            line["bits"] = "".join(map(str, self.word[: self.plan.kdash]))
+            line["bits"] = self.word[: self.plan.kdash]
         return line
 
 
@@ -96,8 +98,8 @@ def certificate(
     received = [Arrived(tx, given, a, rate2048, lbrm) for tx, given in receptions]
     found = nr.receive(table, a, [(it.tx, it.octets) for it in received], **settings(rate2048, lbrm))
     plan = nr.plan(a, rate2048=rate2048)
-    peeling = peeling_of(table, plan.graph, plan.set, plan.z)
-    code_blocks: typing.Iterable[CodeBlock] = (CodeBlock(r, plan, peeling, received) for r in range(plan.c))
+    rows = rows_of(table, plan.graph, plan.set, plan.z)
+    code_blocks: typing.Iterable[CodeBlock] = (CodeBlock(r, plan, rows, received) for r in range(plan.c))
     head: dict[str, typing.Any] = {"certificate": VERSION, "outcome": NAMES[found.outcome], "a": a, **settings(rate2048, lbrm)}
     head.update({"fingerprint": fingerprint_of(table, plan), "transmissions": len(received)})
     if found.outcome == nr.Outcome.DELIVERED:

@@ -7,9 +7,8 @@ import struct
 import typing
 
 import nr
-from nr._table import entries_of
 
-from linksim_tools.certificate.steps import peeling_of
+from linksim_tools.certificate.steps import rows_of
 from linksim_tools.certificate.writing import NAMES, Arrived, CodeBlock, Reception, settings
 from linksim_tools.common.graphs import GRAPHS
 from linksim_tools.common.program import Wrong
@@ -68,16 +67,16 @@ def data_of(
     plan = nr.plan(a, rate2048=rate2048)
     received = [Arrived(tx, given, a, rate2048, lbrm) for tx, given in receptions]
     found = nr.receive(table, a, [(it.tx, it.octets) for it in received], **link)
-    peeling = peeling_of(table, plan.graph, plan.set, plan.z)
+    rows = rows_of(table, plan.graph, plan.set, plan.z)
     cut = [nr.cut(block, r, rate2048=rate2048) for r in range(plan.c)]
     b = text_of(bit for bits in cut for bit in bits[: plan.kdash - plan.l])
     words = [[*bits[: 2 * plan.z], *nr.codeword(table, bits, a, rate2048=rate2048)] for bits in cut]
-    steps = [CodeBlock(r, plan, peeling, received).steps for r in range(plan.c)]
+    steps = [CodeBlock(r, plan, rows, received).steps for r in range(plan.c)]
     return {
         "plan": {**plan._asdict(), "a": a, "columns": GRAPHS[plan.graph].columns},
         "k0": [nr.buffer(a, rv, **link).k0 for rv in range(4)],
         "ncb": nr.buffer(a, 0, **link).ncb,
-        "entries": sorted([it.row, it.col, it.values[plan.set] % plan.z] for it in entries_of(table)[0] if it.graph == plan.graph),
+        "entries": sorted([number, *entry] for number, row in enumerate(rows.rows) for entry in row),
         "b": hexadecimal(b), "words": [hexadecimal(text_of(bit & 1 for bit in word)) for word in words],
         "transmissions": [transmission(it, plan) for it in received],
         "steps": [base64.b64encode(struct.pack(f"<{len(it)}H", *(row for row, _ in it))).decode() for it in steps],

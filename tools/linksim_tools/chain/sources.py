@@ -85,11 +85,11 @@ def of_case(given: argparse.Namespace) -> Source:
 def of_run(given: argparse.Namespace) -> Source:
     """A block of a run; of HARQ processes the last round of the block."""
     words = {name: getattr(given, name) for name in faults.READS["run"]}
-    found = [it for it in rounds(program_at(given.program), words) if it[1].ended.block == given.block]
+    found = [it for it in rounds(program_at(given.program), words) if it.ended.block == given.block]
     if not found:
         raise Wrong(f"the run has no block {given.block}")
-    link, one = found[-1]
-    return Source(f"The chain of block {given.block}", link.table, one.block, link.rate2048, link.lbrm, one.receptions)
+    one = found[-1]
+    return Source(f"The chain of block {given.block}", one.table, one.block, one.rate2048, one.lbrm, one.receptions())
 
 
 def source_of(given: argparse.Namespace) -> Source:

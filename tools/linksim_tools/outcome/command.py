@@ -7,22 +7,8 @@ import pathlib
 from linksim_tools.common import explanation, files
 from linksim_tools.common.file_errors import File, keys_of
 from linksim_tools.common.program import Failed, Wrong, name_of, named_in_faults
-from linksim_tools.common.toml_file import settings_of
-from linksim_tools.conform.files import entries_of
 from linksim_tools.outcome import page
-from linksim_tools.outcome.endings import Outcome, outcome_of
-from linksim_tools.outcome.origins import rounds_of, states
-
-
-def pictures(program: pathlib.Path, words: dict[str, str], outcome: Outcome) -> dict[tuple[int, int], list[int]]:
-    """What each position of the first open code blocks is, by the number of the block or round and that of the code block."""
-    records = [record.fields for record in File(words["schedule"], b"", files.LIMITS["schedule"]).records]
-    tables, link = entries_of(words["table"]), settings_of(words["settings"])
-    named = [(at, r) for at, one in enumerate(outcome.ended) for r in one.stuck][: page.MOST_PICTURES]
-    sent = rounds_of(records, outcome)
-    return {
-        (at, r): states(outcome.ended[at], r, sent[at], tables[outcome.ended[at].plan["graph"]], link) for at, r in named
-    }
+from linksim_tools.outcome.endings import outcome_of
 
 
 def told(program: pathlib.Path, words: dict[str, str], html: str | None) -> tuple[list[str], int]:
@@ -39,6 +25,8 @@ def told(program: pathlib.Path, words: dict[str, str], html: str | None) -> tupl
             raise
         return lines, status
     if html:
+        from linksim_tools.outcome.positions import pictures  # which needs the library
+
         with named_in_faults(html):
             text = "".join(line + "\n" for line in page.lines(outcome, pictures(program, words, outcome)))
             pathlib.Path(html).write_text(text, encoding="utf-8")

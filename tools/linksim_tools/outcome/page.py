@@ -7,11 +7,12 @@ import typing
 
 from linksim_tools.common.graphs import GRAPHS
 from linksim_tools.conform.page import document, escaped, paragraph
-from linksim_tools.outcome.origins import FILLER, HEARD, STUCK
 
 if typing.TYPE_CHECKING:
     from linksim_tools.outcome.endings import Outcome
 
+# What a position is, beside the number of the round that fixed it.
+STUCK, HEARD, FILLER = -3, -2, -1
 # A picture is so wide, of which each column has so much; its height, and that of a position at most.
 WIDE, COLUMN, TOP, HIGH, MOST = 372, 5, 16, 230, 8
 # The kinds of positions: a name, a colour, and the states that it has. Rounds of peeling get darker.
