@@ -15,11 +15,10 @@ import typing
 import shared
 from linksim_tools.common.graphs import GRAPHS
 from linksim_tools.conform.encoder import suite as suites
-from linksim_tools.conform.case import Answer
+from linksim_tools.conform.case import FIELDS, Answer
 from linksim_tools.conform.chain import Chain
 from linksim_tools.conform.clauses import Clauses, Impossible
 from linksim_tools.conform.encoder.mistakes import MISTAKES, clauses_of
-from linksim_tools.conform.steps import FIELDS
 
 
 @functools.cache

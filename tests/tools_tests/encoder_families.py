@@ -119,8 +119,6 @@ WORDS = (
             words_turned("f", "at", 64, "(i + 32) % 64")),
     output("word-lost-each-1024", "32 bits are missing from bit 992 on",
            "at = 0; for (unsigned o = 0; o < sent; o++) if (o % 1024 < 992) f[at++] = old[o];"),
-    planted("word-doubled", "32 bits are too many", SELECT, SELECT + "\n    if (made->lengths[r] > 300)\n       "
-            " memmove(made->e + at + 288, made->e + at + 256, made->lengths[r] - 288);"),
     planted("word-of-zeros", "zeros", SELECT, SELECT + "\n    if (made->lengths[r] > 224)\n        "
             "memset(made->e + at + 192, 0, 32);"),
     planted("crc-padded-to-32", "takes zeros up to a multiple of 32 bits", TB_CRC, "{ unsigned char *padded = "
@@ -134,12 +132,11 @@ WORDS = (
     planted("f-octets-of-16", "f of each code block: the octets of each word of 16 bits",
             "    interleave(made->e + at, made->lengths[r], it->qm, made->f + at);",
             "    interleave(made->e + at, made->lengths[r], it->qm, made->f + at);\n    "
-            "" + words_turned("(made->f + at)", "made->lengths[r]", 16, OCTETS)),
+            + words_turned("(made->f + at)", "made->lengths[r]", 16, OCTETS)),
 )
 
 WIDTHS = (
     planted("k0-13-bits", "k0 keeps 13 bits", K0, K0 + " made.k0 &= 8191;"),
-    planted("k0-12-bits", "k0 keeps 12 bits", K0, K0 + " made.k0 &= 4095;"),
     planted("ncb-13-bits", "Ncb keeps 13 bits", NCB, NCB + " made.ncb = made.ncb % 8192 ? made.ncb % 8192 : made.ncb;"),
     planted("e-12-bits", "E_r keeps 12 bits", SHARE, SHARE + "\n    for (unsigned r = 0; r < plan->c; r++)\n    "
             "    made.lengths[r] &= 4095;"),
@@ -196,11 +193,9 @@ FORMULAS = (
     planted("k0-divided-first", "k0 is number floor", START, "return starts[plan->graph][rv] * (ncb / plan->n) * plan->z;"),
     planted("k0-68-columns", "columns \\+ 2|68", START, START.replace("plan->n", "(plan->n + 2 * plan->z)")),
     planted("k0-plus-z", r"exactly where rv > 0[^\x00]*k0 is Zc too large", K0, K0 + " made.k0 += it->rv ? plan->z : 0;"),
-    planted("longer-by-g", "mod\\(G, C'\\) are longer", LEAST, LEAST.replace("it->g / unit % count",
-            "it->g % count")),
+    planted("longer-by-g", "mod\\(G, C'\\) are longer", LEAST, LEAST.replace("it->g / unit % count", "it->g % count")),
     planted("unit-qm-twice", "the unit is", "unit = it->nl * it->qm, all", "unit = it->qm > it->nl ? it->qm : it->nl, all"),
-    planted("count-floor-plus-one", "C is floor", COUNT, COUNT.replace("(it.b + kcb - 25) / (kcb - 24)",
-            "it.b / (kcb - 24) + 1")),
+    planted("count-floor-plus-one", "C is floor", COUNT, COUNT.replace("(it.b + kcb - 25) / (kcb - 24)", "it.b / (kcb - 24) + 1")),
     planted("zc-for-24-more", "Kb Zc >= K' \\+ 24", ZC, ZC.replace("it.kb * it.z < it.kdash", "(it.z < 384 && "
             "it.kb * it.z < it.kdash + 24)")),
     planted("e-in-octets", "whole octets", SHARE, SHARE + "\n    for (unsigned r = 0; r < plan->c; r++)\n       "
@@ -210,10 +205,8 @@ FORMULAS = (
 BOUNDARIES = (
     *(planted(f"kb-{most}-strict", f"B = {most}|limit {most}", KB, KB.replace(f"over > {most}", f"over >= {most}"))
       for most in (640, 560, 192)),
-    planted("kb-576", "limit 560", KB, KB.replace("over > 560", "over > 576")),
     planted("kb-no-192", "limit 192", KB, KB.replace("over > 192 ? 8 : 6", "8")),
     planted("graph-292-missing", "limit 292", TWO, TWO.replace("a <= 292", "0")),
-    planted("graph-308", "limit 292|A = 296|A <=|A from", TWO, TWO.replace("a <= 292", "a <= 308")),
     planted("graph-rate-strict", "limit 1,372|1372", TWO, TWO.replace("100 * rate2048 <= 67 * 2048", "rate2048 < 1372")),
     planted("graph-3840", "limit 3,824", TWO, TWO.replace("a <= 3824", "a <= 3840")),
     planted("crc-at-3824", "limit 3,824", "it = {.a = a, .b = a + (a > 3824 ? 24 : 16)}", "it = {.a = a, .b = a + (a >= 3824 ? "

@@ -12,20 +12,18 @@ NOTHING = ""
 
 @dataclasses.dataclass(frozen=True)
 class Planted:
-    """A mistake: its name, what is said of it, and the changes: a text that stands in the file once, and its new one.
-    `is_told` is whether this is a shift or numbers, and no name, entry, polynomial or exact condition."""
+    """A mistake: its name, what is said of it by all steps and by `sent`, and the changes: a text that stands in the file once, and
+    its new one. `is_told` is whether this is a shift or numbers, and no name, entry, polynomial or exact condition."""
 
     name: str
-    all_steps: str
-    sent_alone: str
+    said: tuple[str, str]
     changes: tuple[tuple[str, str], ...]
     is_told: bool = False
 
 
 def planted(name: str, said: str | tuple[str, str], *texts: str) -> Planted:
     """A mistake, of the old and the new text of each change in turn; `said` is one for both, or one for each."""
-    all_steps, sent_alone = (said, said) if isinstance(said, str) else said
-    return Planted(name, all_steps, sent_alone, tuple(zip(texts[::2], texts[1::2])))
+    return Planted(name, (said, said) if isinstance(said, str) else said, tuple(zip(texts[::2], texts[1::2])))
 
 
 def told(name: str, said: str | tuple[str, str], *texts: str) -> Planted:
@@ -58,8 +56,7 @@ CRC = (
             IN_BIT, "unsigned first = i / 8 * 8, last = count - first < 8 ? count : first + 8;\n"
             "        unsigned out = rest >> (length - 1) ^ bits[first + last - 1 - i];",
             PARITY, "bits[count + i] = rest >> i & 1;"),
-    planted("crc-backwards", "the bits go in backwards", IN_BIT,
-            "unsigned out = rest >> (length - 1) ^ bits[count - 1 - i];"),
+    planted("crc-backwards", "the bits go in backwards", IN_BIT, "unsigned out = rest >> (length - 1) ^ bits[count - 1 - i];"),
     planted("crc24a-only-whole", "CRC24A: the generator polynomial is 0x800063 in place of 0x864cfb", TB_CRC,
             TB_CRC.replace("0x864CFB", "0x800063")),
 )
@@ -140,10 +137,8 @@ CODING = (
             "if (t < plan->z / 8 * 8)\n                " + SUM),
     planted("columns-of-256", "exactly where (parity bits are sent and )?Zc >= 288", SUM,
             SUM.replace("(t + shift)", "((t + shift) % plan->z & 255)")),
-    planted("shift-7-bits", "V keeps 7 bits", SHIFT, "return value % 128 % z;"),
     planted("core-unrotated-set-2", r"core-unrotated[^\x00]*exactly where set 2|exactly where set 2[^\x00]*core-unrotated",
-            "back = odd_shift(plan);",
-            "back = plan->set == 2 ? 0 : odd_shift(plan);"),
+            "back = odd_shift(plan);", "back = plan->set == 2 ? 0 : odd_shift(plan);"),
     planted("last-row-left-out", "row 41 of base graph 2 gives zeros", EXTENSION,
             EXTENSION.replace(".rows;", ".rows - (plan->graph == 2);")),
     planted("fillers-sent-as-ones", ("exactly where there are fillers", "exactly where fillers are passed"), MARKED,
@@ -166,12 +161,8 @@ SEGMENTATION = (
                            "set 6 of base graph 1 is read from another column: set 7's values"),
             ODD, "{1, 3, 5, 7, 9, 11, 15, 13}"),
     planted("graph-392", "the limit 292 of A is from 384 to 463", "a <= 292", "a <= 392"),
-    planted("last-crc-left-out", "the parity bits of the last code block are zeros", "    if (plan->l)\n        put_crc",
-            "    if (plan->l && r + 1 == plan->c)\n        memset(to + part, 0, 24);\n"
-            "    else if (plan->l)\n        put_crc"),
     planted("bits-of-code-blocks-reversed", "of the bits of the code blocks: they are in reverse",
-            "memcpy(to, b + r * part, part);",
-            "memcpy(to, b + (plan->c - 1 - r) * part, part);"),
+            "memcpy(to, b + r * part, part);", "memcpy(to, b + (plan->c - 1 - r) * part, part);"),
 )
 
 START = "return starts[plan->graph][rv] * ncb / plan->n * plan->z;"
@@ -185,8 +176,6 @@ BUFFER = (
         "it->limited && plan->c == 1"))),
     planted("k0-from-n-rv3", "exactly where rv = 3", START, START.replace("ncb", "(rv == 3 ? plan->n : ncb)")),
     planted("k0-late-rv1", "exactly where rv = 1", START, START.replace(";", " + (rv == 1 ? 2 * plan->z : 0);")),
-    planted("ncb-rounded-to-z", "Ncb is rounded down to a multiple of Zc", "made.ncb = limit < plan->n ? limit : plan->n;",
-            "made.ncb = limit < plan->n ? limit / plan->z * plan->z + (limit < plan->z) * limit : plan->n;"),
     planted("lbrm-in-32-bits", "exactly where TBS_LBRM >= 1,431,655,", LIMIT, LIMIT.replace("3ull", "3u")),
 )
 
@@ -194,8 +183,7 @@ UNIT = "unit = it->nl * it->qm, all"
 LONGER = "is_longer(j, count, longer)"
 
 LENGTHS = (
-    planted("layers-3", "NL = 3 is taken as 1", UNIT,
-            UNIT.replace("it->nl", "(it->nl == 3 ? 1 : it->nl)")),
+    planted("layers-3", "NL = 3 is taken as 1", UNIT, UNIT.replace("it->nl", "(it->nl == 3 ? 1 : it->nl)")),
     told("mask-backwards", ("E has the right numbers, at other code blocks", NOTHING),
             "int scheduled = all || it->mask[r] == '1';", "int scheduled = all || it->mask[plan->c - 1 - r] == '1';"),
     told("longer-alternate", ("E has the right numbers, at other code blocks", NOTHING), LONGER,
@@ -213,7 +201,7 @@ SELECTION = (
         "(k0 + j) % ncb", "(j < ncb ? (k0 + j) % ncb : (k0 + j) % ncb >= k0 ? (k0 + j) % ncb : k0)")),
     planted("fillers-skipped-once", "exactly where fillers are passed after the wrap", NEXT, NEXT.replace(
         "!= FILLER)", "!= FILLER || k0 + j >= ncb)").replace(ROUND, ROUND.replace(";", " != 0;"))),
-    told("beat-lost", "32 bits are missing from bit", NEXT,
+    told("beat-lost", "32 bits are missing from bit 1184 on", NEXT,
             NEXT + "\n    if (count > 1216)\n        memmove(e + 1184, e + 1216, count - 1216);"),
     told("word-sent-twice", "32 bits are too many from bit", NEXT,
             NEXT + "\n    if (count > 256)\n        memmove(e + 96, e + 64, count - 96)" + ";"),
@@ -226,8 +214,7 @@ INTERLEAVING = (
     planted("transposed-qpsk", "exactly where Qm = 2", PLACE,
             "if (qm == 2)\n                f[i * (count / qm) + j] = e[i + j * qm];\n            else\n"
             "                " + PLACE),
-    planted("i-and-q-exchanged", "with each pair exchanged", PLACE,
-            "f[(qm > 1 ? i ^ 1 : i) + j * qm] = e[i * (count / qm) + j];"),
+    planted("i-and-q-exchanged", "with each pair exchanged", PLACE, "f[(qm > 1 ? i ^ 1 : i) + j * qm] = e[i * (count / qm) + j];"),
     planted("256qam-as-16qam", "exactly where Qm = 8", PLACE,
             PLACE.replace("i + j * qm", "(qm == 8 ? i / 2 + i % 2 * 4 : i) + j * qm")),
     planted("rows-of-whole-octets", ("exactly where", "exactly where"), PLACE, PLACE.replace(
@@ -249,8 +236,7 @@ CONCATENATION = (
 WORD = "    static unsigned char word[MOST_COLUMNS * MOST_SIZE];\n    memset(word, 0, sizeof word);"
 
 # Bugs of hardware. A rotator turns the wrong way, and another one subtracts Zc once and shifts the rest out. A reader
-# goes one place past the buffer's end. The columns of the fillers have what the code block before left there, and a
-# beat of 32 bits is lost.
+# goes one place past the buffer's end. The columns of the fillers have what the code block before left there.
 HARDWARE = (
     planted("rotator-left", "shift-left", SHIFT, "return (z - value % z) % z;"),
     planted("shift-once-lost", r"exactly where (parity bits are sent and )?Zc <= \d+", SUM,
@@ -263,8 +249,6 @@ HARDWARE = (
             "    memcpy(d, word + 2 * plan->z, plan->n);",
             "    memcpy(d, word + 2 * plan->z, plan->n);\n"
             "    memset(d + plan->kdash - 2 * plan->z, filler_in_d(), plan->k - plan->kdash);"),
-    planted("lost-beat", "32 bits are missing from bit 1184 on", NEXT,
-            NEXT + "\n    if (count > 1216)\n        memmove(e + 1184, e + 1216, count - 1216);"),
 )
 
 PLANTED = (

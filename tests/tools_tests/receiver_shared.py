@@ -14,12 +14,10 @@ import typing
 import conform_shared
 import shared
 from linksim_tools.conform.receiver import answers as answering
-from linksim_tools.conform.receiver import known_answers, report, run, verdicts
+from linksim_tools.conform.receiver import known_answers, report
 from linksim_tools.conform.receiver import suite as suites
 from linksim_tools.conform.receiver.diagnosis import Diagnosis
-from linksim_tools.conform.receiver.level import MODEL, Level
-from linksim_tools.conform.receiver.mistakes import receiver_with
-from linksim_tools.conform.receiver.evidence import Seen
+from linksim_tools.conform.receiver.reception import MODEL, Level
 
 if typing.TYPE_CHECKING:
     from linksim_tools.conform.receiver.chain import Receiver
@@ -85,8 +83,8 @@ def built(name: str) -> pathlib.Path:
 @functools.lru_cache(None)
 def asked(level: Level) -> bytes:
     """All lines of the suite as plain words."""
-    manner = run.Manner(level, plain=True)
-    lines = [line for kept in suite().cases.values() for line in run.lines_of(kept.case, manner)]
+    manner = answering.Manner(level, plain=True)
+    lines = [line for kept in suite().cases.values() for line in answering.lines_of(kept.case, manner)]
     return "".join(f"{line}\n" for line in lines).encode()
 
 
@@ -100,32 +98,27 @@ def answered(level: Level, *words: str) -> answering.Answers:
     return there
 
 
-def side_by_side(
-    all_words: typing.Sequence[tuple[Level, tuple[str, ...]]],
-) -> typing.Iterator[tuple[Level, tuple[str, ...], answering.Answers]]:
+def side_by_side(some: typing.Sequence[tuple[Level, str]]) -> typing.Iterator[tuple[Level, str, answering.Answers]]:
     """The answers of several receivers, of which a few run at a time."""
     built("receiver")
-    for level, _ in all_words:
+    for level, _ in some:
         asked(level)
     with concurrent.futures.ThreadPoolExecutor(3) as pool:
-        waiting = [pool.submit(answered, level, *words) for level, words in all_words]
-        for (level, words), it in zip(all_words, waiting):
+        waiting = [pool.submit(answered, level, *words.split()) for level, words in some]
+        for (level, words), it in zip(some, waiting):
             yield level, words, it.result()
 
 
-def answers_of_kind(kind: type[Receiver], every_level: bool = False, level: Level = MODEL) -> answering.Answers:
-    """What such a receiver of the model answers to the suite, its blocks and which code blocks passed or all that it has."""
+def answers_of(
+    kind: type[Receiver], every_level: bool = False, level: Level = MODEL, of: suites.Suite | None = None
+) -> answering.Answers:
+    """What such a receiver of the model answers to a suite, its blocks and which code blocks passed or all that it has."""
+    of = of or suite()
     found: answering.Answers = {}
-    for name, kept in suite().cases.items():
-        answers = known_answers.taken(kind(suite().tables), kept.case, level)
+    for name, kept in of.cases.items():
+        answers = known_answers.taken(kind(of.tables), kept.case, level)
         found[name] = [it if every_level else dataclasses.replace(it, info=None, soft=None) for it in answers]
     return found
-
-
-def answers_of_model(of: suites.Suite, *mistakes: str) -> answering.Answers:
-    """What the model's receiver with these mistakes answers to a suite."""
-    kind = receiver_with(frozenset(mistakes))
-    return {name: [*known_answers.taken(kind(of.tables), kept.case)] for name, kept in of.cases.items()}
 
 
 def of_model(mistake: str, levels: int = 1) -> Diagnosis:
@@ -139,16 +132,12 @@ def of_model(mistake: str, levels: int = 1) -> Diagnosis:
     return found
 
 
-def verdict_of(found: Diagnosis) -> verdicts.Verdict:
-    """The verdict on a diagnosis of blocks that are not delivered in another order."""
-    return verdicts.verdict(Seen(found, {}))
-
-
-def named(answers: answering.Answers) -> list[tuple[str, ...]]:
-    """The mistakes that a diagnosis names."""
-    return verdicts.verdict(Seen(Diagnosis(suite(), answers), answers)).names
-
-
 def reported(answers: answering.Answers) -> report.Report:
     """The report on these answers."""
     return report.report(suite(), answers)
+
+
+def reported_of(kind: type[Receiver], **options: typing.Any) -> tuple[report.Report, str]:
+    """The report on what such a receiver of the model answers to the suite, and its lines of diagnosis and doubt."""
+    made = reported(answers_of(kind, **options))
+    return made, "\n".join([*(made.diagnosis.says() if made.diagnosis else ()), *made.doubts])

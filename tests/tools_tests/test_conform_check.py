@@ -13,9 +13,9 @@ import typing
 import conform_shared
 import shared
 from linksim_tools.conform import bits, files
+from linksim_tools.conform.case import STEPS
 from linksim_tools.conform.encoder import answers as answering
 from linksim_tools.conform.encoder import report as reporting
-from linksim_tools.conform.steps import STEPS
 
 
 def answer(name: str, *fields: str) -> dict[str, typing.Any]:
@@ -100,13 +100,16 @@ class Right(Checked):
         self.assertEqual(self.check(single)[0], 0)
 
     def test_plain(self) -> None:
+        """Plain words; a list without a bit is one too."""
         right = conform_shared.suite().values["mask-hole"]
         words: dict[str, typing.Any] = {"id": "mask-hole", **dataclasses.asdict(right.plan)}
         words |= {name: getattr(right, name) for name in ("attached", "k0", "Ncb", "sent")}
         words |= {name: ",".join(map(str, getattr(right, name))) for name in ("E", "bits", "d", "e", "f")}
-        status, lines = self.check(" ".join(f"{name} {value}" for name, value in words.items()), plain=True)
-        self.assertEqual(status, 0)
-        self.assertEqual(self.numbers("interleaving", lines)[0], 1)
+        zero = conform_shared.suite().values["shares-zero"]
+        other = {"id": "shares-zero", "e": ",".join(it or "none" for it in zero.e), "sent": zero.sent}
+        lines = [" ".join(f"{name} {value}" for name, value in it.items()) for it in (words, other)]
+        status, lines = self.check(*lines, plain=True)
+        self.assertEqual((status, self.numbers("interleaving", lines)[0], self.numbers("selection", lines)[0]), (0, 1, 2))
 
     def test_json_and_html(self) -> None:
         page = self.folder / "report.html"
@@ -127,11 +130,6 @@ class Right(Checked):
         self.assertRegex(head, r"^\d+ of \d+ points are covered by 2 cases$")
         self.assertEqual([line.split()[:3] for line in lines if line.startswith(("kb-6 ", "kb-8 ", "kb-22 "))],
                          [["kb-6", "1", "0"], ["kb-8", "1", "1"], ["kb-22", "0", "0"]])
-
-    def test_a_list_without_a_bit(self) -> None:
-        right = conform_shared.suite().values["shares-zero"]
-        words = {"id": "shares-zero", "e": ",".join(it or "none" for it in right.e), "sent": right.sent}
-        self.assertEqual(self.check(" ".join(f"{name} {value}" for name, value in words.items()), plain=True)[0], 0)
 
     def test_a_last_line_without_end(self) -> None:
         path = self.file("answers.txt", "id kb-192 k0 0")
@@ -179,82 +177,66 @@ class Differences(Checked):
         text = text[:place] + {"0": "1", "1": "0", "-": "0"}[text[place]] + text[place + 1 :]
         return {"id": name, field: text if isinstance(right, str) else right[:r] + [text] + right[r + 1 :]}
 
-    def test_crc(self) -> None:
-        lines = self.first(self.changed("kb-560", "attached", 546))
-        self.assertEqual(lines[0], "first difference, step CRC, in the smallest case that fails: kb-560")
-        self.assertRegex(lines[2], r"bit 546 is [01], right is [01]: parity bit p_2 of 16 \(5.1\)")
-        self.assertIn("bit a_5 of the block itself", self.first(self.changed("kb-560", "attached", 5))[2])
+    def test_a_bit(self) -> None:
+        """One bit of each list is another one."""
+        right = conform_shared.suite().values
+        self.assertEqual(self.first(self.changed("kb-560", "attached", 546))[0],
+                         "first difference, step CRC, in the smallest case that fails: kb-560")
+        plan, lengths, z, systematic = right["mask-hole"].plan, right["mask-hole"].E, 72, 40 - 2 * 7
+        part, columns, count = plan.kdash - 24, len(right["fillers-2"].e[0]) // 2, right["limited-2-n"].E[0]
+        for name, field, place, r, at, said in (
+            ("kb-560", "attached", 546, 0, 2, r"bit 546 is [01], right is [01]: parity bit p_2 of 16 \(5.1\)"),
+            ("kb-560", "attached", 5, 0, 2, "bit a_5 of the block itself"),
+            ("mask-hole", "bits", part + 3, 1, 3, r"^it is parity bit p_3 of the code block's CRC24B \(5.1, 5.2.2\)$"),
+            ("mask-hole", "bits", 7, 2, 3, rf"^it is bit b_{2 * part + 7} of the block with its CRC \(5.2.2\)$"),
+            ("kb-560", "d", 3 * z + 11, 0, 3, f"column j = 5, bit t = 11 of Zc = {z}: bit {5 * z + 11} of the code block"),
+            ("kb-560", "d", 8 * z + 5, 0, 3, f"column j = 10, bit t = 5 of Zc = {z}; the sum of rows 0 to 3 fixes it"),
+            ("kb-560", "d", 560 - 2 * z, 0, 2, "bit 416 is 0, right is a filler"),
+            ("fillers-2", "e", systematic, 0, 3,
+             rf"e_{systematic} is d_{70 - 14} \(k0 = 0, Ncb = 350; 5.4.2.1\): column j = 10, bit t = 0"),
+            ("fillers-2", "f", 5, 0, 3,
+             rf"symbol 2, bit 1 of Qm = 2: f_5 is e_{columns + 2} \(E / Qm = {columns}; 5.4.2.2\)"),
+            ("limited-2-n", "e", count - 1, 0, 3, r", in round 3 \("),
+            ("mask-hole", "sent", lengths[0] + 6, 0, 3, r"^it is f_6 of code block r = 2 \(5.5\)$"),
+            ("mask-hole", "sent", lengths[0] + 6, 0, 4, "symbol 1, bit 2 of Qm = 4: f_6 is e_"),
+        ):
+            with self.subTest(said):
+                self.assertRegex(self.first(self.changed(name, field, place, r))[at], said)
 
-    def test_plan(self) -> None:
-        lines = self.first({"id": "kb-560", "plan": {"graph": 1, "z": 64}})
-        self.assertEqual(lines[2], "base graph 1, right is 2: A = 544, R = 1024 / 2048 (6.2.2, 7.2.2)")
-        lines = self.first({"id": "kb-560", "plan": {"graph": 2, "z": 64, "set": 0, "kb": 8}})
-        wanted = ["Zc is 64, right is 72 (5.2.2, 5.3.2)", "the set index is 0, right is 4 (5.2.2, 5.3.2)"]
-        self.assertEqual(lines[2:], wanted)
-
-    def test_code_blocks(self) -> None:
-        plan = conform_shared.suite().values["mask-hole"].plan
-        part = plan.kdash - 24
-        lines = self.first(self.changed("mask-hole", "bits", part + 3, r=1))
-        self.assertEqual(lines[3], "it is parity bit p_3 of the code block's CRC24B (5.1, 5.2.2)")
-        lines = self.first(self.changed("mask-hole", "bits", 7, r=2))
-        self.assertEqual(lines[3], f"it is bit b_{2 * part + 7} of the block with its CRC (5.2.2)")
-        self.assertIn("the bits of 1 code blocks, right is C = 3", self.first({"id": "mask-hole", "bits": ["01"]})[2])
-
-    def test_codeword(self) -> None:
+    def test_rows(self) -> None:
+        """The rows that fix a column, with their entries."""
         z = 72
-        lines = self.first(self.changed("kb-560", "d", 3 * z + 11))
-        self.assertIn(f"column j = 5, bit t = 11 of Zc = {z}: bit {5 * z + 11} of the code block", lines[3])
-        lines = self.first(self.changed("kb-560", "d", 8 * z + 5))
-        self.assertIn(f"column j = 10, bit t = 5 of Zc = {z}; the sum of rows 0 to 3 fixes it", lines[3])
-        self.assertEqual(len(lines), 11)
+        self.assertEqual(len(self.first(self.changed("kb-560", "d", 8 * z + 5))), 11)
         for column, row in ((11, 0), (13, 2), (14, 4), (51, 41)):
             lines = self.first(self.changed("kb-560", "d", (column - 2) * z + 1))
             self.assertIn(f"column j = {column}, bit t = 1 of Zc = {z}; row {row} fixes it", lines[3])
-            entries = conform_shared.entries(2)
-            wanted = [f"{at}:{values[4] % z}" for (number, at), values in sorted(entries.items()) if number == row]
+            entries = sorted(conform_shared.entries(2).items())
+            wanted = [f"{at}:{values[4] % z}" for (number, at), values in entries if number == row]
             self.assertEqual(lines[4], f"row {row}, set 4, column:P = {' '.join(wanted)}")
-        lines = self.first(self.changed("kb-560", "d", 560 - 2 * z))
-        self.assertIn("bit 416 is 0, right is a filler", lines[2])
 
-    def test_buffer_and_lengths(self) -> None:
-        lines = self.first({"id": "limited-2-rv1", "Ncb": 70, "k0": 7})
-        self.assertRegex(lines[2], r"Ncb is 70, right is \d+: N = 350, TBS_LBRM = \d+, C = 1 \(5.4.2.1\)")
-        lines = self.first({"id": "limited-2-rv1", "k0": 8})
-        self.assertRegex(lines[2], r"k0 is 8, right is 7: rv = 1, Ncb = \d+, Zc = 7 \(Table 5.4.2.1-2\)")
-        lines = self.first({"id": "shares-zero", "E": [2, 0, 2]})
-        self.assertEqual(lines[2], "E of code block r = 0 is 2, right is 0 (5.4.2.1)")
-        self.assertIn("E of 2 code blocks, right is C = 3", self.first({"id": "shares-zero", "E": [2, 2]})[2])
-
-    def test_selection_and_interleaving(self) -> None:
-        right = conform_shared.suite().values["fillers-2"]
-        systematic = 40 - 2 * 7
-        lines = self.first(self.changed("fillers-2", "e", systematic))
-        self.assertIn(f"e_{systematic} is d_{70 - 14} (k0 = 0, Ncb = 350; 5.4.2.1): column j = 10, bit t = 0", lines[3])
-        columns = len(right.e[0]) // 2
-        lines = self.first(self.changed("fillers-2", "f", 5))
-        self.assertIn(f"symbol 2, bit 1 of Qm = 2: f_5 is e_{columns + 2} (E / Qm = {columns}; 5.4.2.2)", lines[3])
-        count, = conform_shared.suite().values["limited-2-n"].E
-        lines = self.first(self.changed("limited-2-n", "e", count - 1))
-        self.assertIn(", in round 3 (", lines[3])
-
-    def test_sent(self) -> None:
-        right = conform_shared.suite().values["mask-hole"]
-        lines = self.first(self.changed("mask-hole", "sent", right.E[0] + 6))
-        self.assertEqual(lines[3], "it is f_6 of code block r = 2 (5.5)")
-        self.assertIn("symbol 1, bit 2 of Qm = 4: f_6 is e_", lines[4])
-
-    def test_too_few_and_too_many_bits(self) -> None:
-        right = conform_shared.suite().values["kb-560"]
-        lines = self.first({"id": "kb-560", "sent": right.sent[:100]})
-        wanted = f"the bits sent: 100 bits, right are {len(right.sent)}; the first 100 agree (5.5)"
-        self.assertEqual(lines[2], wanted)
-        lines = self.first({"id": "kb-560", "attached": right.attached + "01"})
-        wanted = "b, the block with its CRC: 562 bits, right are 560; the first 560 agree (6.2.1, 7.2.1)"
-        self.assertEqual(lines[2], wanted)
-        lines = self.first({"id": "kb-560", "d": "10"[int(right.d[0][0])] + right.d[0]})
-        self.assertEqual(lines[2], "d of code block r = 0: 3601 bits, right are 3600; the first 0 agree")
-        self.assertEqual(lines[3], "it is column j = 2, bit t = 0 of Zc = 72: bit 144 of the code block")
+    def test_numbers_and_lengths(self) -> None:
+        """Numbers that are others, and lists that are too short or too long."""
+        one = conform_shared.suite().values["kb-560"]
+        rows: tuple[tuple[str, dict[str, typing.Any], list[str]], ...] = (
+            ("kb-560", {"plan": {"graph": 1, "z": 64}}, ["base graph 1, right is 2: A = 544, R = 1024 / 2048 (6.2.2, 7.2.2)"]),
+            ("kb-560", {"plan": {"graph": 2, "z": 64, "set": 0, "kb": 8}},
+             ["Zc is 64, right is 72 (5.2.2, 5.3.2)", "the set index is 0, right is 4 (5.2.2, 5.3.2)"]),
+            ("mask-hole", {"bits": ["01"]}, ["the bits of 1 code blocks, right is C = 3 (5.2.2)"]),
+            ("limited-2-rv1", {"Ncb": 70, "k0": 7}, ["Ncb is 70, right is 45: N = 350, TBS_LBRM = 30, C = 1 (5.4.2.1)"]),
+            ("limited-2-rv1", {"k0": 8}, ["k0 is 8, right is 7: rv = 1, Ncb = 45, Zc = 7 (Table 5.4.2.1-2)"]),
+            ("shares-zero", {"E": [2, 0, 2]}, ["E of code block r = 0 is 2, right is 0 (5.4.2.1)"]),
+            ("shares-zero", {"E": [2, 2]}, ["E of 2 code blocks, right is C = 3 (5.2.2)"]),
+            ("kb-560", {"sent": one.sent[:100]},
+             [f"the bits sent: 100 bits, right are {len(one.sent)}; the first 100 agree (5.5)"]),
+            ("kb-560", {"attached": one.attached + "01"},
+             ["b, the block with its CRC: 562 bits, right are 560; the first 560 agree (6.2.1, 7.2.1)"]),
+            ("kb-560", {"d": "10"[int(one.d[0][0])] + one.d[0]},
+             ["d of code block r = 0: 3601 bits, right are 3600; the first 0 agree",
+              "it is column j = 2, bit t = 0 of Zc = 72: bit 144 of the code block"]),
+        )
+        for name, wrong, said in rows:
+            with self.subTest(said):
+                self.assertEqual(self.first({"id": name, **wrong})[2 : 2 + len(said)], said)
 
 
 class Unjudged(Checked):
@@ -331,20 +313,18 @@ class Unjudged(Checked):
         self.refused("no id: '{\"id\": \"kb-560\"}'", '{"id": "kb-560"}', plain=True)
 
     def test_files(self) -> None:
-        nowhere = "tools/conform: /nowhere cannot be read: No such file or directory\n"
+        nowhere, few = "tools/conform: /nowhere cannot be read: No such file or directory\n", conform_shared.few_path()
         path = self.answers("{1}")
-        status, output, error = conform_shared.conform("check", conform_shared.few_path(), path)
+        status, output, error = conform_shared.conform("check", few, path)
         self.assertEqual((status, error), (1, ""))
         self.assertRegex(output, r"\n" + re.escape(str(path)) + r" line 1: not JSON: .*: '\{1\}'\n")
-        status, output, error = conform_shared.conform("check", conform_shared.few_path(), "/nowhere")
-        self.assertEqual((status, output, error), (1, "", nowhere))
-        status, _, error = conform_shared.conform("check", "/nowhere", "/nowhere")
-        self.assertEqual((status, error), (1, nowhere))
+        path = self.file("answers.jsonl", '{"id": "kb-560"}\n')
+        said = "tools/conform: /nowhere/page.html cannot be written: No such file or directory\n"
+        rows: list[tuple[list[object], str]] = [([few, "/nowhere"], nowhere), (["/nowhere", "/nowhere"], nowhere),
+                                                ([few, path, "--html", "/nowhere/page.html"], said)]
+        for words, wanted in rows:
+            status, _, error = conform_shared.conform("check", *words)
+            self.assertEqual((status, error), (1, wanted))
         status, _, error = conform_shared.conform("check")
         self.assertEqual(status, 2)
         self.assertIn("usage:", error)
-        path = self.file("answers.jsonl", '{"id": "kb-560"}\n')
-        words = ["check", conform_shared.few_path(), path, "--html", "/nowhere/page.html"]
-        status, _, error = conform_shared.conform(*words)
-        said = "tools/conform: /nowhere/page.html cannot be written: No such file or directory\n"
-        self.assertEqual((status, error), (1, said))

@@ -6,25 +6,20 @@ from __future__ import annotations
 import dataclasses
 import html
 import json
-import typing
 import unittest
 import unittest.mock
 
 import conform_shared
-from linksim_tools.conform.case import Answer
+from linksim_tools.conform.case import FIELDS, STEPS, Answer
 from linksim_tools.conform.chain import Chain
 from linksim_tools.conform.clauses import Clauses, right
 from linksim_tools.conform.code import TablesKey
-from linksim_tools.conform.encoder import alike, mistakes, search, words
+from linksim_tools.conform.encoder import listing, mistakes, search
 from linksim_tools.conform.encoder import page as pages
 from linksim_tools.conform.encoder import report as reporting
-from linksim_tools.conform.encoder.diagnosis import diagnosis
 from linksim_tools.conform.encoder.judging import Trials
-from linksim_tools.conform.steps import FIELDS, STEPS
-
-if typing.TYPE_CHECKING:
-    from linksim_tools.conform.encoder.finding import Found
-    from linksim_tools.conform.encoder.report import Report
+from linksim_tools.conform.encoder.report import Report
+from linksim_tools.conform.encoder.search import Found, diagnosis
 
 # These differ in the number Kb that they say, and in no bit.
 SAME_BITS = {"kb-10", "lifting-by-k"}
@@ -43,25 +38,20 @@ def names(found: list[Found]) -> list[tuple[str, list[list[str]]]]:
 class Planted(unittest.TestCase):
     """Mistakes that are planted in the model."""
 
-    def test_each_is_found_where_all_is_answered(self) -> None:
+    def test_each_is_found(self) -> None:
+        """By all steps, and by the bits that are sent."""
         for name, mistake in mistakes.MISTAKES.items():
             with self.subTest(name):
                 found = found_in(conform_shared.planted(name))
-                self.assertEqual(names(found), [(mistake.step, [[name]])])
-                self.assertTrue(found[0].is_sure)
-
-    def test_each_is_found_by_the_bits_that_are_sent(self) -> None:
-        for name in mistakes.MISTAKES:
-            with self.subTest(name):
-                answers = conform_shared.planted(name, fields=("sent",))
-                found = found_in(answers)
+                self.assertEqual((names(found), found[0].is_sure), ([(mistake.step, [[name]])], True))
+                found = found_in(conform_shared.planted(name, fields=("sent",)))
                 wanted = sorted([it] for it in SAME_BITS) if name in SAME_BITS else [[name]]
                 self.assertEqual(names(found), [("concatenation", wanted)])
                 apart = (True, "plan") if name in SAME_BITS else (False, None)
                 self.assertEqual((found[0].alike, found[0].apart), apart)
 
     def test_the_suite_says_which_have_the_same_bits(self) -> None:
-        lines = {line.split(" (")[0].split()[-1]: line for line in alike.lines(conform_shared.suite())}
+        lines = {line.split(" (")[0].split()[-1]: line for line in listing.mistakes(str(conform_shared.suite_path()))}
         self.assertEqual(list(lines), list(mistakes.MISTAKES))
         for name, line in lines.items():
             count, _, said = line.strip().partition(" ")
@@ -100,10 +90,6 @@ class Planted(unittest.TestCase):
             for pair in (("fillers-one", "shift-left"), ("k0-no-floor", "ncb-floor-early")):
                 found = found_in(conform_shared.planted(*pair, fields=fields))
                 self.assertEqual([one for _, one in names(found)], [[list(pair)]])
-
-    def test_two_mistakes_of_two_steps(self) -> None:
-        found = found_in(conform_shared.planted("crc-preset", "interleaver-transposed"))
-        self.assertEqual(names(found), [("crc", [["crc-preset"]]), ("interleaving", [["interleaver-transposed"]])])
 
 
 class Words(unittest.TestCase):
@@ -230,7 +216,7 @@ class Words(unittest.TestCase):
             for fitting in made.diagnosis[0].fitting:
                 self.assertIn(f"  {fitting.names()[0]} (", page)
             for found in made.diagnosis:
-                for line in words.head_lines(made.suite, found):
+                for line in reporting.head_lines(made.suite, found):
                     self.assertIn(html.escape(line.strip()), page)
             for first in made.firsts:
                 for line in first.difference:

@@ -37,18 +37,14 @@ class InC(conform_shared.Commands):
     def run_plain(self, *command: object, more: typing.Sequence[object] = ()) -> tuple[int, list[str], list[str]]:
         return self.run_(*command, suite=conform_shared.suite_path(), more=["--plain", *more])
 
-    def test_template(self) -> None:
-        status, lines, error = self.run_plain(self.built("template"))
-        count = len(conform_shared.lines())
-        self.assertEqual((status, error, lines[-1]), (0, [], "all that was answered agrees"))
-        self.assertEqual(lines[2].split(), ["CRC", str(count), "0", "0"])
-        self.assertEqual(lines[6].split(), ["LDPC", "0", "0", str(count)])
-
-    def test_encoder(self) -> None:
-        status, lines, error = self.run_plain(self.built("encoder"), conform_shared.table())
+    def test_right_ones(self) -> None:
+        """The template answers the first step alone, the whole encoder all of them."""
         count = str(len(conform_shared.lines()))
-        self.assertEqual((status, error, lines[-1]), (0, [], "all that was answered agrees"))
-        self.assertEqual([line.split()[-3:] for line in lines[2:-1]], [[count, "0", "0"]] * 10)
+        for name, words, wanted in (("template", (), [[count, "0", "0"]] + [["0", "0", count]] * 9),
+                                    ("encoder", (conform_shared.table(),), [[count, "0", "0"]] * 10)):
+            status, lines, error = self.run_plain(self.built(name), *words)
+            self.assertEqual((status, error, lines[-1]), (0, [], "all that was answered agrees"))
+            self.assertEqual([line.split()[-3:] for line in lines[2:-1]], wanted)
 
     def test_planted(self) -> None:
         for name, mistake in PLANTED.items():
@@ -71,13 +67,12 @@ class InC(conform_shared.Commands):
         hole = by_id["mask-hole"]
         self.assertEqual((hole["mask"], hole["lbrm"], by_id["kb-560"]["mask"]), ("101", "-", "all"))
         self.assertEqual(by_id["limited-2-n"]["lbrm"], str(cases["limited-2-n"].lbrm))
-        status, answers, said = shared.run([self.built("encoder"), conform_shared.table()], output.encode())
-        self.assertEqual((status, said), (0, b""))
-        wrong = shared.run([self.folder / "encoder", conform_shared.table()], b'{"id": "x"}\n')
+        wrong = shared.run([self.built("encoder"), conform_shared.table()], b'{"id": "x"}\n')
         self.assertEqual(wrong, (2, b"", b"no case in plain words: `run` needs --plain\n"))
+        status, answers, said = shared.run([self.folder / "encoder", conform_shared.table()], output.encode())
         path = self.file("answers.txt", answers)
-        status, output, error = conform_shared.conform("check", "--plain", conform_shared.few_path(), path)
-        self.assertEqual((status, error, output.splitlines()[-1]), (0, "", "all that was answered agrees"))
+        found, output, error = conform_shared.conform("check", "--plain", conform_shared.few_path(), path)
+        self.assertEqual((status, said, found, error, output.splitlines()[-1]), (0, b"", 0, "", "all that was answered agrees"))
 
 
 class InPython(conform_shared.Commands):
@@ -239,13 +234,10 @@ for line in sys.stdin:
         self.assertNotIn(b"linksim_tools.conform.receiver", error)
 
     def test_no_command(self) -> None:
-        status, lines, error = self.run_("/nowhere/encoder")
-        said = "tools/conform: /nowhere/encoder cannot be started: No such file or directory"
-        self.assertEqual((status, lines, error), (1, [], [said]))
+        for command, suite, said in (("/nowhere/encoder", None, "/nowhere/encoder cannot be started: No such file or directory"),
+                                     ("true", "/nowhere", "/nowhere cannot be read: No such file or directory")):
+            self.assertEqual(self.run_(command, suite=suite), (1, [], [f"tools/conform: {said}"]))
         self.assertEqual(conform_shared.refused("run", conform_shared.few_path(), status=2), "no command: write it after --")
-        status, lines, error = self.run_("true", suite="/nowhere")
-        said = "tools/conform: /nowhere cannot be read: No such file or directory"
-        self.assertEqual((status, lines, error), (1, [], [said]))
         for word in ("0", "nan", "ten"):
             status, _, error = self.run_("true", more=["--seconds", word])
             said = f"tools/conform run: error: argument --seconds: {word} is not from 0.001 to 1e+06"

@@ -23,10 +23,6 @@ MOST = {"quick": 190, "full": 1100}
 class Points(unittest.TestCase):
     """The design, which needs no program."""
 
-    def covered(self, profile: str) -> dict[str, list[str]]:
-        """By case the points that it covers."""
-        return {case.id: points.covered(case) for case in design.designed(profile, 1)}
-
     def test_names(self) -> None:
         names = [point.name for part in points.PARTS for point in part()]
         self.assertEqual(len(names), len(set(names)))
@@ -34,7 +30,7 @@ class Points(unittest.TestCase):
 
     def test_every_point_has_a_case(self) -> None:
         for profile, most in MOST.items():
-            found = self.covered(profile)
+            found = {case.id: points.covered(case) for case in design.designed(profile, 1)}
             self.assertLessEqual(len(found), most)
             document = (shared.ROOT / "docs" / "conformance.md").read_text()
             self.assertTrue(f"| `{profile}` | {len(found)} |" in document)

@@ -1,16 +1,21 @@
-"""Mistakes that tools/conform does not list, planted in the example encoder, and bugs of hardware. The tests count how
-many end in the right name, table entry, polynomial or condition."""
+"""Mistakes that tools/conform does not list, planted in the example encoder singly and by two, and bugs of hardware. The tests
+count how many end in the right name, table entry, polynomial or condition, by all steps and by only the bits that are sent."""
 
 from __future__ import annotations
 
+import concurrent.futures
 import dataclasses
 import functools
+import multiprocessing
 import pathlib
+import re
 import shutil
 import sys
+import typing
 import unittest
 
 import conform_shared
+import encoder_families
 import encoder_mistakes
 import shared
 from linksim_tools.conform.case import Answer
@@ -20,8 +25,9 @@ from linksim_tools.conform.encoder.mistakes import MISTAKES
 
 EXAMPLES = shared.EXAMPLES / "conform"
 
-# In how many of a hundred mistakes the right name, entry, polynomial or exact condition must be said.
-ALL_STEPS, SENT_ALONE = 80, 65
+# In how many of a hundred mistakes the right name, entry, polynomial or exact condition must be said, by all steps and by `sent`.
+# Then of how many of a kind at least, and of how many pairs both names by `sent`.
+LEAST, OF_KIND, PAIRS = (80, 65), 8, 5
 
 
 @functools.cache
@@ -68,44 +74,82 @@ def said_of(answers: dict[str, Answer]) -> tuple[reporting.Report, str]:
     return made, text[text.find("first difference") :]
 
 
+class Said(typing.NamedTuple):
+    """What a report says: its text from the first difference on, how many names are sure, and the listed ones among them, all and
+    those that stand alone."""
+
+    text: str
+    sure: int
+    listed: list[str]
+    alone: list[str]
+
+
+def judged(ones: typing.Sequence[encoder_mistakes.Planted]) -> list[Said]:
+    """What is said of one mistake, or of two together: of all steps, and of the bits that are sent."""
+    one = dataclasses.replace(ones[0], name="+".join(it.name for it in ones), changes=sum((it.changes for it in ones), ()))
+    answers, said = answered(one), []
+    for given in (answers, {name: Answer(sent=it.sent) for name, it in answers.items() if it.sent is not None}):
+        made, text = said_of(given)
+        sure = [(it.name, len(found.fitting)) for found in made.diagnosis if found.is_sure
+                for fitting in found.fitting for it in fitting.mistakes]
+        listed = [(name, count) for name, count in sure if name in MISTAKES]
+        said.append(Said(text, len(sure), [name for name, _ in listed], [name for name, count in listed if count == 1]))
+    return said
+
+
+def all_judged(listed: typing.Iterable[typing.Sequence[encoder_mistakes.Planted]]) -> list[list[Said]]:
+    """The same of many, several at a time."""
+    questions(), conform_shared.suite()
+    with concurrent.futures.ProcessPoolExecutor(4, multiprocessing.get_context("fork")) as pool:
+        return list(pool.map(judged, listed))
+
+
 @unittest.skipUnless(shutil.which("cc"), "no C compiler is there")
 class Planted(unittest.TestCase):
     """Each mistake is found, most are named, and none is named wrongly."""
 
-    def judged(self, one: encoder_mistakes.Planted, answers: dict[str, Answer], wanted: str) -> bool:
-        """Whether a name, an entry, a polynomial or a condition is said, which must be the wanted one. The mistake is to
-        be found, and no listed one named plainly, since it is none of them."""
-        made, text = said_of(answers)
-        self.assertTrue(made.firsts)
-        sure = [it.name for found in made.diagnosis if found.is_sure for fitting in found.fitting
-                for it in fitting.mistakes]
-        self.assertEqual([it for it in sure if it in MISTAKES], [])
-        if sure:
-            self.assertTrue(wanted and not one.is_told, sure)
-        if wanted:
-            self.assertRegex(text, wanted)
-        return bool(wanted) and not one.is_told
-
     def test_how_many_are_named(self) -> None:
-        all_steps = sent_alone = 0
-        for one in encoder_mistakes.PLANTED:
+        """The wanted words are said of each. No listed mistake is named, since it is none of them."""
+        planted = encoder_mistakes.PLANTED
+        for one, both in zip(planted, all_judged([it] for it in planted)):
+            for said, wanted in zip(both, one.said):
+                with self.subTest(one.name):
+                    self.assertTrue(said.text.startswith("first difference"))
+                    self.assertEqual(said.listed, [])
+                    self.assertTrue(not said.sure or wanted and not one.is_told)
+                    self.assertTrue(re.search(wanted, said.text), said.text)
+        self.assertGreaterEqual(len(planted), 60)
+        for place, least in enumerate(LEAST):
+            named = sum(bool(it.said[place]) and not it.is_told for it in planted)
+            self.assertGreaterEqual(100 * named, least * len(planted))
+
+    def test_each_kind(self) -> None:
+        listed = [one for ones in encoder_families.KINDS.values() for one in ones]
+        found = all_judged([one] for one in listed)
+        for one, both in zip(listed, found):
             with self.subTest(one.name):
-                answers = answered(one)
-                all_steps += self.judged(one, answers, one.all_steps)
-                sent = {name: Answer(sent=it.sent) for name, it in answers.items()}
-                sent_alone += self.judged(one, sent, one.sent_alone)
-        count = len(encoder_mistakes.PLANTED)
-        self.assertGreaterEqual(count, 60)
-        self.assertGreaterEqual(100 * all_steps, ALL_STEPS * count)
-        self.assertGreaterEqual(100 * sent_alone, SENT_ALONE * count)
+                self.assertEqual([said.alone for said in both], [[], []])
+        self.assertGreaterEqual(len(listed), 80)
+        self.assertGreaterEqual(min(map(len, encoder_families.KINDS.values())), OF_KIND)
+        for place, least in enumerate(LEAST):
+            lacking = [one.name for one, both in zip(listed, found)
+                       if not one.said[place] or not re.search(one.said[place], both[place].text)]
+            self.assertLessEqual(100 * len(lacking), (100 - least) * len(listed), lacking)
+
+    def test_two_together(self) -> None:
+        named = {one.name: one for ones in encoder_families.KINDS.values() for one in ones}
+        pairs = [[named[name] for name in pair] for pair in encoder_families.PAIRS]
+        both = [[all(re.search(one.said[place], said[place].text) for one in pair) for place in range(2)]
+                for pair, said in zip(pairs, all_judged(pairs))]
+        all_steps, sent_alone = (sum(it) for it in zip(*both))
+        self.assertGreaterEqual(sent_alone, PAIRS)
+        self.assertGreaterEqual(all_steps, len(pairs) - 1)
 
     def test_bugs_of_hardware(self) -> None:
-        for one in encoder_mistakes.HARDWARE:
-            with self.subTest(one.name):
-                answers = answered(one)
-                self.assertRegex(said_of(answers)[1], one.all_steps)
-                sent = {name: Answer(sent=it.sent) for name, it in answers.items()}
-                self.assertRegex(said_of(sent)[1], one.sent_alone)
+        for one, both in zip(encoder_mistakes.HARDWARE, all_judged([it] for it in encoder_mistakes.HARDWARE)):
+            for said, wanted in zip(both, one.said):
+                with self.subTest(one.name):
+                    self.assertRegex(said.text, wanted)
 
     def test_state_of_an_earlier_case(self) -> None:
         one = next(it for it in encoder_mistakes.HARDWARE if it.name == "stale-fillers")
@@ -150,23 +194,21 @@ class Two(unittest.TestCase):
     """A mistake hides no other of a later step."""
 
     def test_an_unknown_one_and_a_known_one(self) -> None:
-        answers: dict[str, Answer] = {}
-        for name, it in conform_shared.planted("k0-shifted").items():
+        answers = conform_shared.planted("k0-shifted")
+        for it in answers.values():
             attached = it.attached or ""
-            answers[name] = dataclasses.replace(it, attached=attached[:-3] + attached[-3:][::-1])
+            it.attached = attached[:-3] + attached[-3:][::-1]
         made, _ = said_of(answers)
         named = [(found.step, [it.names() for it in found.fitting]) for found in made.diagnosis]
         self.assertIn(("buffer", [["k0-shifted"]]), named)
         self.assertEqual(named[0], ("crc", []))
 
     def test_twelve_pairs(self) -> None:
-        pairs = [("crc-by-b", "shift-left"), ("kb-limits", "rv-order"), ("shift-capped", "interleaver-transposed"),
-                 ("graph-two-thirds", "core-forward"), ("k0-no-floor", "last-octet-reversed"), ("crc-inverted", "one-round"),
-                 ("lifting-strict", "lengths-by-number"), ("code-crc-zeros", "ncb-no-factor"),
-                 ("fillers-one", "k0-in-word"),
-                 ("set-rows", "interleaver-by-columns"), ("shift-masked", "lengths-no-layers"),
-                 ("crc-preset", "fillers-counted")]
-        for pair in pairs:
+        for pair in (("crc-by-b", "shift-left"), ("kb-limits", "rv-order"), ("shift-capped", "interleaver-transposed"),
+                     ("graph-two-thirds", "core-forward"), ("k0-no-floor", "last-octet-reversed"), ("crc-inverted", "one-round"),
+                     ("lifting-strict", "lengths-by-number"), ("code-crc-zeros", "ncb-no-factor"), ("fillers-one", "k0-in-word"),
+                     ("set-rows", "interleaver-by-columns"), ("shift-masked", "lengths-no-layers"),
+                     ("crc-preset", "fillers-counted")):
             with self.subTest(pair):
                 made, _ = said_of(conform_shared.planted(*pair))
                 found = [(it.step, [one.names() for one in it.fitting]) for it in made.diagnosis]

@@ -8,22 +8,16 @@ import shutil
 import unittest
 import unittest.mock
 
-import receiver_mistakes
-import receiver_designs
-import receiver_shared
-from linksim_tools.conform.receiver import known_answers, ladder, reading, report, steps, trials
+from linksim_tools.conform.receiver import doubts, families, known_answers, reading, report, steps, verdicts
 from linksim_tools.conform.receiver.chain import Receiver
 from linksim_tools.conform.receiver.diagnosis import Diagnosis
-from linksim_tools.conform.receiver.level import Level
-from linksim_tools.conform.receiver.mistakes import MISTAKES, OWN, SHARED
-from linksim_tools.conform.receiver.mistakes.catalogue import STEPS
-from linksim_tools.conform.receiver.reception import Answer
+from linksim_tools.conform.receiver.mistakes import MISTAKES, OWN, SHARED, STEPS, receiver_with
+from linksim_tools.conform.receiver.reception import Answer, Level
+from receiver_mistakes import DESIGNS, HELD_OUT, Change, Votes, handed_up, octets, planted
+from receiver_shared import answered, answers_of, few, of_model, reported, reported_of, side_by_side, suite
 
 # These give the same blocks in every case.
-ALIKE = [{"kb-10", "lifting-by-k"}]
-
-# What keeps a block that was delivered may make the second mistake in place of the first.
-FITS = {"delivered-sticks": {"delivered-sticks", "cleared-never"}}
+ALIKE = ["kb-10", "lifting-by-k"]
 
 # The mistakes that the receiver in C can make.
 IN_C = """
@@ -39,11 +33,6 @@ LEVELS = {4: ("int8", "int4", "float"), 16: ("int8", "int4", "float", "sum-produ
           64: ("int8", "int4", "float", "sum-product")}
 
 
-def alike(name: str) -> set[str]:
-    """The mistakes that have the same blocks as this one."""
-    return next((group for group in ALIKE if name in group), FITS.get(name, {name}))
-
-
 class InTheModel(unittest.TestCase):
     """Each mistake by itself."""
 
@@ -51,50 +40,39 @@ class InTheModel(unittest.TestCase):
         self.assertEqual((len(OWN), len(SHARED), len(MISTAKES)), (59, 63, 122))
         self.assertEqual({it.step for it in MISTAKES.values()}, set(STEPS))
 
-    def told(self, mistake: str, levels: int) -> None:
-        """A mistake is found, and named: by its name if something but a single lost block shows it, or by its iterations."""
-        of = receiver_shared.of_model(mistake, levels)
-        failing, found = [name for name in of.judged if of.fails(name)], receiver_shared.verdict_of(of)
-        self.assertNotEqual(failing, [])
-        if found.names:
-            self.assertIn((mistake,), found.names)
-        else:
-            self.assertTrue(found.kind == "depth" or len(failing) == 1, (found.kind, found.said, failing))
-
     def test_each_is_named(self) -> None:
-        """By the blocks, and by which code blocks passed."""
+        """By the blocks, and by which code blocks passed. A mistake is found, and named: by its name if something but a single lost
+        block shows it, or by its iterations."""
         for mistake in MISTAKES:
-            with self.subTest(mistake):
-                self.told(mistake, 2)
+            for levels in (1, 2):
+                with self.subTest(mistake, levels=levels):
+                    of = of_model(mistake, levels)
+                    found = verdicts.verdict(of, {})
+                    self.assertNotEqual(of.failing, [])
+                    if found.names:
+                        self.assertIn(mistake, found.names)
+                    else:
+                        self.assertTrue(found.kind == "depth" or len(of.failing) == 1, (found.kind, found.said, of.failing))
 
     def test_the_suite_has_what_the_model_answers(self) -> None:
-        suite = receiver_shared.suite()
         for mistake in [*MISTAKES][::12]:
-            answers = receiver_shared.answers_of_model(suite, mistake)
-            for name, kept in suite.cases.items():
+            answers = answers_of(receiver_with(frozenset([mistake])), True)
+            for name, kept in suite().cases.items():
                 with self.subTest(mistake=mistake, case=name):
-                    pairs = zip(answers[name], kept.case.meant, kept.case.arrivals)
-                    words = tuple(known_answers.shown(answer or known_answers.NOTHING, meant, told) for answer, meant, told in pairs)
+                    each = zip(answers[name], kept.case.meant, kept.case.arrivals)
+                    words = tuple(known_answers.shown(answer, meant, told) for answer, meant, told in each if answer)
                     self.assertTrue(not kept.known or words == kept.answers(mistake)[0])
-
-    def test_blocks_alone_are_enough(self) -> None:
-        for mistake in MISTAKES:
-            with self.subTest(mistake):
-                self.told(mistake, 1)
 
     def test_the_listed_pair(self) -> None:
         """Two mistakes give the same blocks in every case: both are named, and nothing that can be answered tells them
         apart."""
-        both = sorted(*ALIKE)
-        for kept in receiver_shared.suite().cases.values():
-            first, second = ([told[0] for told in kept.answers(name)[0]] for name in both)
-            self.assertEqual(first, second, kept.case.id)
-        for mistake in both:
-            found = receiver_shared.verdict_of(receiver_shared.of_model(mistake))
-            self.assertEqual((sorted(found.names), found.apart, found.against), ([(name,) for name in both], None, []))
+        self.assertEqual(*([known_answers.blocks(kept.answers(name)[0]) for kept in suite().cases.values()] for name in ALIKE))
+        for mistake in ALIKE:
+            found = verdicts.verdict(of_model(mistake), {})
+            self.assertEqual((sorted(found.names), found.apart, found.against), (ALIKE, None, []))
 
     def test_right(self) -> None:
-        found = receiver_shared.of_model("")
+        found = of_model("")
         self.assertEqual([name for name in found.words if found.fails(name)], [])
 
 
@@ -103,31 +81,26 @@ class HeldOut(unittest.TestCase):
 
     def test_no_false_name(self) -> None:
         """None has a plain name that is not its own, and more than half are named by what the report says: a name is given only
-        where something proves it."""
-        named, found = [], 0
-        for name, it in receiver_mistakes.HELD_OUT.items():
+        where something proves it. Numbers in few bits are found."""
+        named, found = [], []
+        for name, (_, _, said) in HELD_OUT.items():
             with self.subTest(name):
-                made = receiver_shared.reported(receiver_shared.answers_of_kind(receiver_mistakes.planted(name)))
-                found += bool(made.failing)
-                text = "\n".join([*made.diagnosis.says(), *made.doubts] if made.diagnosis else made.doubts)
-                named += [name] * (it.said != "" and it.said in text)
-                if made.diagnosis and made.diagnosis.kind in ("gives", "one"):
-                    self.assertIn(it.said, text)
-        self.assertGreaterEqual(found, 0.95 * len(receiver_mistakes.HELD_OUT))
+                made, text = reported_of(planted(name))
+                found += [name] * bool(made.failing)
+                named += [name] * (said in text)
+                if made.diagnosis and made.diagnosis.kind == "gives":
+                    self.assertIn(said, text)
+        self.assertGreaterEqual(len(found), 0.95 * len(HELD_OUT))
+        self.assertLessEqual({"p-of-8-bits", "addresses-of-14-bits"}, set(found))
         self.assertIn("rv-of-1-bit", named)
-        self.assertGreaterEqual(len(named), 0.55 * len(receiver_mistakes.HELD_OUT), sorted(receiver_mistakes.HELD_OUT.keys() - set(named)))
-
-    def test_numbers_in_few_bits_are_found(self) -> None:
-        for name in ("p-of-8-bits", "addresses-of-14-bits"):
-            made = receiver_shared.reported(receiver_shared.answers_of_kind(receiver_mistakes.planted(name)))
-            self.assertNotEqual(made.failing, [], name)
+        self.assertGreaterEqual(len(named), 0.55 * len(HELD_OUT), sorted(HELD_OUT.keys() - set(named)))
 
     def test_search_is_cut_short(self) -> None:
         """After so much work, and not after so long: what is said is the same on every machine."""
-        answers = receiver_shared.answers_of_kind(receiver_mistakes.planted("order-of-qm-4"))
-        for work, is_cut in ((trials.WORK, False), (0, True)):
-            with unittest.mock.patch.object(trials, "WORK", work):
-                found = receiver_shared.reported(answers).diagnosis
+        answers = answers_of(planted("order-of-qm-4"))
+        for work, is_cut in ((families.WORK, False), (0, True)):
+            with unittest.mock.patch.object(families, "WORK", work):
+                found = reported(answers).diagnosis
             assert found
             self.assertEqual((found.cut_short, bool(found.kinds)), (is_cut, not is_cut))
             self.assertEqual("  the search was cut short: the cases are too long for it" in found.says(), is_cut)
@@ -139,90 +112,77 @@ class HeldOut(unittest.TestCase):
             ("weak-dropped", "up to level 4: weak values are lost in rounding"),
         ):
             with self.subTest(name):
-                kind, suite = receiver_mistakes.planted(name), receiver_shared.suite()
-                failing = {it: ladder.failing(suite, receiver_shared.answers_of_kind(kind, level=it))
-                           for it in map(Level, (4, 8, 16, 31))}
-                text = "\n".join(ladder.lines(suite, failing, suite.cases))
+                kind = planted(name)
+                failing = {it: Diagnosis(suite(), answers_of(kind, level=it)).failing for it in map(Level, (4, 8, 16, 31))}
+                text = "\n".join(doubts.of_levels(suite(), failing, suite().cases))
                 self.assertRegex(text, said)
                 self.assertRegex(text, r"^levels 4, 8, 16 and 31: \d+, \d+, \d+ and \d+ cases fail\n")
 
     def test_right_designs(self) -> None:
         """Receivers that keep what passed, free a buffer or deliver a block once, and one that decodes by elimination, are right,
         whatever they answer; hard decisions are right if they are asked for."""
-        for name, (kind, level) in receiver_designs.DESIGNS.items():
+        for name, (kind, level) in DESIGNS.items():
             for every_level in (False, True):
                 with self.subTest(name, every_level=every_level):
-                    answers = receiver_shared.answers_of_kind(kind, every_level=every_level, level=level)
-                    made = receiver_shared.reported({it: found for it, found in answers.items()
-                                                     if level.asks(receiver_shared.suite().cases[it].case)})
+                    answers = answers_of(kind, every_level=every_level, level=level)
+                    made = reported({it: found for it, found in answers.items() if level.asks(suite().cases[it].case)})
                     self.assertEqual((made.failing, made.doubts), ([], []))
                     self.assertEqual(any("decodes more than peeling" in note for note in made.notes), name == "elimination")
 
     def test_several_consistent_blocks(self) -> None:
         """One that guesses among several blocks that are consistent with what was received is wrong."""
-        made = receiver_shared.reported({"nothing-24": [Answer("0" * 24)]})
+        made = reported({"nothing-24": [Answer("0" * 24)]})
         self.assertEqual((made.failing, made.notes), (["nothing-24"], []))
 
-    def test_hard_decisions_are_suggested(self) -> None:
-        """If only cases with values of several strengths fail, the report says how to ask."""
-        made = receiver_shared.reported(receiver_shared.answers_of_kind(receiver_designs.Votes))
-        self.assertNotEqual(made.failing, [])
-        self.assertIn("--bits 1 asks with hard decisions", " ".join(made.doubts))
-
-    def test_a_mirror_proves_its_mistake(self) -> None:
-        """A mistake under a condition whose mirror is delivered heads the report, with the condition."""
-        kind = type("Half", (Receiver,), {"joined": lambda self, sizes, texts: Receiver.joined(
-            self, sizes, texts[::-1] if len(texts) == 2 else texts)})
-        made = receiver_shared.reported(receiver_shared.answers_of_kind(kind))
-        assert made.diagnosis
-        self.assertRegex(next(made.diagnosis.says()), "^diagnosis: joined-reversed gives all that fails, exactly where C = 2")
+    def test_what_is_said_of_others(self) -> None:
+        """If only cases with values of several strengths fail, the report says how to ask. A mistake under a condition whose mirror
+        is delivered heads the report, with the condition. What is delivered in another order is not called next to nothing, and
+        told as it is. Too few iterations are told as such, and not as wrong entries."""
+        changes: list[tuple[str, Change, str]] = [
+            ("heard", Votes.heard, "--bits 1 asks with hard decisions"),
+            ("joined", lambda self, sizes, texts: Receiver.joined(self, sizes, texts[::-1] if len(texts) == 2 else texts),
+             "^diagnosis: joined-reversed gives all that fails, exactly where C = 2"),
+            ("answered", handed_up(lambda bits: "".join(it[4:] + it[:4] for it in octets(bits))),
+             "^diagnosis: .*the halves of each octet are exchanged"),
+            ("answered", handed_up(lambda bits: str(1 - int(bits[0])) + bits[1:]), "^diagnosis: .*bit 0 inverted"),
+            ("iterations", lambda self: 3, "^diagnosis: .*those of up to 3 are delivered: too few iterations"),
+            ("iterations", lambda self: 6, "^diagnosis: .*those of up to 6 are delivered: too few iterations"),
+        ]
+        for function, change, said in changes:
+            with self.subTest(said):
+                made, text = reported_of(type("Other", (Receiver,), {function: change}))
+                self.assertNotEqual(made.failing, [])
+                self.assertRegex(text, said)
 
     def test_no_name_by_a_single_loss(self) -> None:
         """One lost block shows no mistake: the case is told, and what it is for."""
-        of = receiver_shared.of_model("")
+        of = of_model("")
         last = next(name for name in of.judged if "a8-other-qm" in name)
-        of.words[last] = [None if it is None else ("-", None, None, None) for it in of.words[last]]
-        found = receiver_shared.verdict_of(of)
+        of.words[last] = [it and ("-", None, None, None) for it in of.words[last]]
+        found = verdicts.verdict(of, {})
         self.assertEqual((found.names, found.kinds), ([], ()))
         self.assertIn(f"  only {last} fails: ", "\n".join(found.says()))
 
-    def test_what_is_delivered_in_another_order(self) -> None:
-        """It is not called next to nothing, and told as it is: nibbles, or the same bits inverted in each block."""
-        for change, said in ((lambda bits: "".join(bits[at + 4 : at + 8] + bits[at : at + 4] for at in range(0, len(bits), 8)),
-                              "the halves of each octet are exchanged"),
-                             (lambda bits: str(1 - int(bits[0])) + bits[1:], "bit 0 inverted")):
-            kind = type("Other", (Receiver,), {"answered": lambda self, process, bits, change=change: bits and change(bits)})
-            made = receiver_shared.reported(receiver_shared.answers_of_kind(kind))
-            assert made.diagnosis
-            self.assertIn(said, made.diagnosis.said)
-
     def test_soft_values_are_read(self) -> None:
         """They show k0, which is judged as an encoder's is, and what else puts values elsewhere."""
-        for name, said in (("k0-34-for-33", "k0 of rv = 2 by base graph 1 is not made of 33: 34"), ("rv-of-1-bit", "rv keeps 1 bit"),
-                           ("order-of-qm-8", "with its halves exchanged"), ("fillers-of-rv-0", "fillers are not passed over")):
-            answers = receiver_shared.answers_of_kind(receiver_mistakes.planted(name), every_level=True)
-            read = reading.lines(Diagnosis(receiver_shared.suite(), answers), answers)
+        for name, said in (
+            ("k0-34-for-33", "k0 of rv = 2 by base graph 1 is not made of 33: 34"), ("rv-of-1-bit", "rv keeps 1 bit"),
+            ("order-of-qm-8", "with its halves exchanged"), ("fillers-of-rv-0", "fillers are not passed over"),
+        ):
+            answers = answers_of(planted(name), every_level=True)
+            read = reading.lines(Diagnosis(suite(), answers), answers)
             self.assertRegex(read[0], "^read from soft in ")
             self.assertIn(said, "\n".join(read))
 
-    def test_depth_before_entries(self) -> None:
-        """Too few iterations are told as such, and not as wrong entries."""
-        for count in (3, 6):
-            kind = type("Few", (Receiver,), {"iterations": lambda self, count=count: count})
-            made = receiver_shared.reported(receiver_shared.answers_of_kind(kind))
-            assert made.diagnosis
-            self.assertRegex(made.diagnosis.said, f"those of up to {count} are delivered: too few iterations")
-
     def test_a_single_code_block(self) -> None:
         """If it fails, `0` may mean the CRC of the block, which is right: what differs is told of the transmission after it."""
-        made = receiver_shared.reported({"weak-before-24": [Answer(None, "0")] * 2})
+        made = reported({"weak-before-24": [Answer(None, "0")] * 2})
         self.assertEqual((made.failing, made.first and made.first.transmission), (["weak-before-24"], 1))
 
     def test_the_longest_cases_alone(self) -> None:
         """If only cases fail of which the answers of mistakes are not known, no block is said to be right."""
-        few = receiver_shared.few()
-        long = {name: dataclasses.replace(kept, known=False) for name, kept in few.cases.items()}
-        made = report.report(dataclasses.replace(few, cases=long), {"fresh-24": [Answer(None), None]})
+        long = {name: dataclasses.replace(kept, known=False) for name, kept in few().cases.items()}
+        made = report.report(dataclasses.replace(few(), cases=long), {"fresh-24": [Answer(None), None]})
         assert made.diagnosis
         self.assertIn("only the longest cases fail", made.diagnosis.said)
 
@@ -232,31 +192,33 @@ class InC(unittest.TestCase):
     """The receiver in C on the whole suite."""
 
     def test_right(self) -> None:
-        words = [(Level(strong, 8, sign), (arithmetic, *(["positive-1"] if sign else [])))
+        words = [(Level(strong, 8, sign), f"{arithmetic} {'positive-1' * sign}")
                  for strong, names in LEVELS.items() for arithmetic in names for sign in (0, 1)]
-        for level, said, answers in receiver_shared.side_by_side(words):
+        for level, said, answers in side_by_side(words):
             with self.subTest(level=level, words=said):
-                made = receiver_shared.reported(answers)
-                self.assertEqual((made.failing, made.answered), ([], len(receiver_shared.suite().cases)))
+                made = reported(answers)
+                self.assertEqual((made.failing, made.answered), ([], len(suite().cases)))
 
-    def test_hard_decisions(self) -> None:
-        """A decoder that stops by hard decisions fails no case: a block of zeros is in doubt, once."""
-        made = receiver_shared.reported(receiver_shared.answered(Level(), "hard-decisions"))
-        self.assertEqual((made.failing, made.diagnosis, len(made.doubts)), ([], None, 1))
-        self.assertIn("may stop as soon as hard decisions meet all rows", made.doubts[0])
+    def test_doubts(self) -> None:
+        """A decoder that stops by hard decisions fails no case: a block of zeros is in doubt, once. Nor do sums that are no wider
+        than messages if values are small."""
+        for word, said in (("hard-decisions", "^doubt [^;]* may stop as soon as hard decisions meet all rows[^;]*;[^;]*$"), (
+                "narrow", "^doubt .it may be arithmetic, and no mistake of the chain.: values at full scale ")):
+            made = reported(answered(Level(), word))
+            self.assertEqual((made.failing, made.diagnosis), ([], None))
+            self.assertRegex(" ".join(made.doubts), said)
 
     def test_planted(self) -> None:
-        words = [(Level(), (mistake,)) for mistake in IN_C]
         named = 0
-        for _, (mistake,), answers in receiver_shared.side_by_side(words):
-            names = receiver_shared.named(answers)
-            named += names == [(mistake,)]
+        for _, mistake, answers in side_by_side([(Level(), mistake) for mistake in IN_C]):
+            names = verdicts.verdict(Diagnosis(suite(), answers), answers).names
+            named += names == [mistake]
             with self.subTest(mistake):
-                self.assertIn((mistake,), names or [(mistake,)])
+                self.assertIn(mistake, names or [mistake])
         self.assertGreaterEqual(named, len(IN_C) - 2)
 
     def test_soft_shows_the_place(self) -> None:
-        made = receiver_shared.reported(receiver_shared.answered(Level(), "soft", "k0-shifted"))
+        made = reported(answered(Level(), "soft", "k0-shifted"))
         assert made.first
         found = [line for line in made.first.difference if line.startswith("soft: place ")]
         self.assertEqual(len(found), 1)
@@ -264,20 +226,12 @@ class InC(unittest.TestCase):
 
     def test_fillers_in_soft(self) -> None:
         """A receiver that keeps fillers as sure zeros in its soft buffer is right too."""
-        answers = receiver_shared.answered(Level(), "soft")
+        answers = answered(Level(), "soft")
         for name, found in answers.items():
-            for tx, (answer, told) in enumerate(zip(found, receiver_shared.suite().cases[name].case.arrivals)):
-                sizes = steps.sizes(told.a, told.rate2048, steps.RIGHT)
+            for tx, (answer, told) in enumerate(zip(found, suite().cases[name].case.arrivals)):
+                sizes = steps.sizes(told.a, told.rate2048)
                 first, last = sizes.kdash - 2 * sizes.z, sizes.k - 2 * sizes.z
                 assert answer is not None and answer.soft is not None
                 soft = tuple(it[:first] + "+" * (last - first) + it[last:] for it in answer.soft)
                 found[tx] = dataclasses.replace(answer, soft=soft)
-        self.assertEqual(receiver_shared.reported(answers).failing, [])
-
-    def test_narrow_sums_are_a_doubt(self) -> None:
-        """Sums that are no wider than messages: no mistake is named if values are small, and a doubt is told."""
-        made = receiver_shared.reported(receiver_shared.answered(Level(), "narrow"))
-        self.assertEqual((made.failing, made.diagnosis), ([], None))
-        self.assertRegex(" ".join(made.doubts), "^doubt .it may be arithmetic, and no mistake of the chain.: values at full scale ")
-
-
+        self.assertEqual(reported(answers).failing, [])

@@ -4,6 +4,7 @@ from __future__ import annotations
 
 import binascii
 import functools
+import itertools
 import re
 import typing
 
@@ -65,6 +66,12 @@ def in_words(width: int, order: Order, whole: bool = False) -> Order:
     return lambda bits: "".join(word if whole and len(word) < width else order(word) for word in words_of(bits, width))
 
 
+def parted(bits: str, lengths: typing.Iterable[int]) -> list[str]:
+    """The bits in parts of these lengths."""
+    ends = [0, *itertools.accumulate(lengths)]
+    return [bits[first:last] for first, last in zip(ends, ends[1:])]
+
+
 def backwards(bits: str) -> str:
     return bits[::-1]
 
@@ -98,11 +105,6 @@ def from_octets(value: int) -> typing.Any:
     return of_octets(bytes(value))
 
 
-def from_lowest_first(value: int) -> typing.Any:
-    """Octets as numbers, the first bit of each lowest."""
-    return each_octet_reversed(from_octets(value))
-
-
 def from_words(value: int) -> typing.Any:
     """Words of up to four octets as tools/vectors writes them: the first octet lowest, two digits an octet."""
     if not isinstance(value, list) or not all(isinstance(it, str) and WORD.fullmatch(it) for it in value):
@@ -119,7 +121,8 @@ def from_list(value: list[int]) -> str:
 
 
 READERS: dict[str, typing.Callable[[typing.Any], str]] = {
-    "hex": from_hex, "octets": from_octets, "lsb": from_lowest_first, "le32": from_words, "bits": from_list
+    "hex": from_hex, "octets": from_octets, "lsb": lambda value: each_octet_reversed(from_octets(value)), "le32": from_words,
+    "bits": from_list
 }
 
 
@@ -132,7 +135,8 @@ def little_endian_words(bits: str) -> list[str]:
 # How a list of bits is written. docs/vectors.md says how each packing reads.
 PACKINGS: dict[str, typing.Callable[[str], typing.Any]] = {
     "hex": hexadecimal, "octets": lambda bits: list(octets_of(bits)), "le32": little_endian_words,
-    "lsb": lambda bits: [int(f"{octet:08b}"[::-1], 2) for octet in octets_of(bits)], "bits": lambda bits: list(map(int, bits)),
+    "lsb": lambda bits: [int(octet[::-1], 2) for octet in words_of(bits + "0" * (-len(bits) % 8), 8)],
+    "bits": lambda bits: list(map(int, bits)),
 }
 
 
@@ -179,12 +183,11 @@ def table_of(degree: int, terms: int) -> list[int]:
 
 def remainder_of(polynomial: tuple[int, int], number: int, count: int) -> int:
     """The remainder of a polynomial of `count` terms times D to the degree of the CRC, by its generator polynomial."""
-    if polynomial == POLYNOMIALS["CRC16"]:
-        return binascii.crc_hqx(number.to_bytes(-(-count // 8), "big"), 0)
     octets = number.to_bytes(-(-count // 8), "big")
+    if polynomial == POLYNOMIALS["CRC16"]:
+        return binascii.crc_hqx(octets, 0)
     degree, _ = polynomial
-    table, high, most = table_of(*polynomial), degree - 8, (1 << degree) - 1
-    rest = 0
+    table, high, most, rest = table_of(*polynomial), degree - 8, (1 << degree) - 1, 0
     for octet in octets:
         rest = (rest << 8 & most) ^ table[rest >> high ^ octet]
     return rest

@@ -1,4 +1,5 @@
-"""A case of a suite, the numbers of its segmentation, and what stands between its block and the bits that are sent."""
+"""The steps of the chain. A case of a suite, the numbers of its segmentation, and what stands between its block and the bits
+that are sent."""
 
 from __future__ import annotations
 
@@ -6,9 +7,33 @@ import dataclasses
 import re
 import typing
 
+# The steps of the chain in their order, each with the names of an answer that show it.
+STEPS = {
+    "crc": ("CRC", ("attached",)),
+    "graph": ("base graph", ("graph",)),
+    "segmentation": ("segmentation", ("plan",)),
+    "codecrc": ("code block CRC", ("bits",)),
+    "ldpc": ("LDPC", ("d",)),
+    "buffer": ("buffer and k0", ("Ncb", "k0")),
+    "lengths": ("E_r", ("E",)),
+    "selection": ("selection", ("e",)),
+    "interleaving": ("interleaving", ("f",)),
+    "concatenation": ("concatenation", ("sent",)),
+}
+FIELDS = tuple(field for _, fields in STEPS.values() for field in fields)
+STEP_OF = {field: step for step, (_, fields) in STEPS.items() for field in fields}
+
+# The names of an answer that are bits.
+BITS = ("attached", "bits", "d", "e", "f", "sent")
+
 # The entries of a base graph by row: a column with its eight values; and such lists by the number of the base graph.
 Row = typing.List[typing.Tuple[int, typing.Tuple[int, ...]]]
 Tables = typing.Dict[int, typing.List[Row]]
+
+
+def put(values: tuple[int, ...], index: int, value: int) -> tuple[int, ...]:
+    """Values with another one at an index."""
+    return (*values[:index], value, *values[index + 1 :])
 
 
 @dataclasses.dataclass(frozen=True)
@@ -89,7 +114,6 @@ class Answer:
     sent: str | None = None
 
     def names(self) -> list[str]:
-        """The names that it gives."""
         return [field.name for field in dataclasses.fields(self) if getattr(self, field.name) is not None]
 
 

@@ -9,12 +9,21 @@ from linksim_tools.conform.case import Answer, Case, Plan, Values
 from linksim_tools.conform.clauses import SIZES, Clauses, Impossible
 from linksim_tools.conform.code import TablesKey, coding_of, encoder_of
 
-# From which names each name is made.
-INPUTS: dict[str, tuple[str, ...]] = {
-    "attached": (), "graph": (), "plan": ("attached", "graph"), "bits": ("attached", "plan"), "d": ("bits", "plan"),
-    "Ncb": ("plan",), "k0": ("plan", "Ncb"), "E": ("plan",), "e": ("d", "Ncb", "k0", "E"), "f": ("e",),
-    "sent": ("f",),
+# From which names each name is made, and how.
+MADE: dict[str, tuple[tuple[str, ...], typing.Callable[..., typing.Any]]] = {
+    "attached": ((), lambda it: it.clauses.attached(it.case.a)),
+    "graph": ((), lambda it: it.clauses.base_graph(len(it.case.a), it.case.rate2048)),
+    "plan": (("attached", "graph"), lambda it, attached, graph: it.clauses.plan(graph, len(it.case.a), len(attached), {})),
+    "bits": (("attached", "plan"), lambda it, attached, plan: it.clauses.code_blocks(attached, plan)),
+    "d": (("bits", "plan"), lambda it, bits, plan: it.words(bits, plan)),
+    "Ncb": (("plan",), lambda it, plan: it.buffer_length(plan)),
+    "k0": (("plan", "Ncb"), lambda it, plan, length: it.clauses.start(plan, length, it.case.rv)),
+    "E": (("plan",), lambda it, plan: it.clauses.lengths(it.case, plan.c, it.scheduled())),
+    "e": (("d", "Ncb", "k0", "E"), lambda it, *given: it.selected(*given)),
+    "f": (("e",), lambda it, e: it.clauses.interleaved_all(e, it.case.qm)),
+    "sent": (("f",), lambda it, f: it.clauses.joined(f)),
 }
+INPUTS = {name: inputs for name, (inputs, _) in MADE.items()}
 
 # No number of a plan is larger than this, and no list that is made longer.
 MOST_NUMBER, MOST_BITS = 1 << 22, 1 << 25
@@ -36,14 +45,17 @@ class Chain:
             return self.plan(found or {})
         return self.made(name) if found is None else found
 
+    def attempt(self, name: str) -> typing.Any:
+        """What is made under a name, or why nothing is."""
+        inputs, make = MADE[name]
+        try:
+            return make(self, *map(self.of, inputs))
+        except (Impossible, ArithmeticError, LookupError, ValueError, TypeError) as error:
+            return Impossible(str(error))
+
     def made(self, name: str) -> typing.Any:
-        """What is made under a name."""
-        if name not in self.kept:
-            try:
-                self.kept[name] = getattr(self, "make_" + name)()
-            except (Impossible, ArithmeticError, LookupError, ValueError, TypeError) as error:
-                self.kept[name] = Impossible(str(error))
-        found = self.kept[name]
+        """What is made under a name, once."""
+        found = self.kept[name] = self.kept[name] if name in self.kept else self.attempt(name)
         if isinstance(found, Impossible):
             raise found
         return found
@@ -64,49 +76,23 @@ class Chain:
             raise Impossible("no plan")
         return plan
 
-    def make_attached(self) -> str:
-        return self.clauses.attached(self.case.a)
-
-    def make_graph(self) -> int:
-        return self.clauses.base_graph(len(self.case.a), self.case.rate2048)
-
-    def make_plan(self) -> Plan:
-        return self.clauses.plan(self.of("graph"), len(self.case.a), len(self.of("attached")), {})
-
-    def make_bits(self) -> list[str]:
-        return self.clauses.code_blocks(self.of("attached"), self.of("plan"))
-
-    def make_d(self) -> list[str]:
-        plan = self.of("plan")
-        encoder = encoder_of(coding_of(self.clauses), self.tables, plan.graph, plan.z, plan.set)
-        return [encoder.coded(bits, plan) for bits in self.of("bits")]
-
     def scheduled(self) -> list[int]:
         return self.clauses.scheduled(self.case.mask, self.of("plan").c)
 
-    def make_Ncb(self) -> int:
-        plan, clauses = self.of("plan"), self.clauses
-        length = len(clauses.sent_columns("0" * (plan.n + 2 * plan.z), plan))
-        return clauses.buffer_length(plan, length, self.case.lbrm, len(self.scheduled()) if self.case.lbrm else 1)
+    def words(self, bits: list[str], plan: Plan) -> list[str]:
+        """d of each code block."""
+        encoder = encoder_of(coding_of(self.clauses), self.tables, plan.graph, plan.z, plan.set)
+        return [encoder.coded(part, plan) for part in bits]
 
-    def make_k0(self) -> int:
-        return self.clauses.start(self.of("plan"), self.of("Ncb"), self.case.rv)
+    def buffer_length(self, plan: Plan) -> int:
+        length = len(self.clauses.sent_columns("0" * (plan.n + 2 * plan.z), plan))
+        return self.clauses.buffer_length(plan, length, self.case.lbrm, len(self.scheduled()) if self.case.lbrm else 1)
 
-    def make_E(self) -> list[int]:
-        return self.clauses.lengths(self.case, self.of("plan").c, self.scheduled())
-
-    def make_e(self) -> list[str]:
-        first, length, counts, words = self.of("k0"), self.of("Ncb"), self.of("E"), self.of("d")
+    def selected(self, words: list[str], length: int, first: int, counts: list[int]) -> list[str]:
+        """e of each code block."""
         if len(words) != len(counts) or not 0 < length <= MOST_NUMBER or sum(counts) > MOST_BITS or min(counts) < 0:
             raise Impossible("no buffer")
         return [self.clauses.selected(d, first, length, count) for d, count in zip(words, counts)]
 
-    def make_f(self) -> list[str]:
-        return self.clauses.interleaved_all(self.of("e"), self.case.qm)
-
-    def make_sent(self) -> str:
-        return self.clauses.joined(self.of("f"))
-
     def values(self) -> Values:
-        """All of them."""
         return Values(**{field.name: self.of(field.name) for field in dataclasses.fields(Values)})

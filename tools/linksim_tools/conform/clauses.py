@@ -31,10 +31,6 @@ class Crc:
         """Which CRC a transport block of A bits has."""
         return "CRC24A" if a > 3824 else "CRC16"
 
-    def crc_of_code_block(self) -> str:
-        """Which CRC a code block has."""
-        return "CRC24B"
-
     def polynomial(self, name: str) -> tuple[int, int]:
         """The degree of a generator polynomial, and its other terms as a number."""
         return lists.POLYNOMIALS[name]
@@ -295,7 +291,7 @@ class Clauses(Crc, Segmentation, Coding, Matching):
 
     def code_block_crc(self, part: str, fillers: int) -> str:
         """The parity bits of a code block that has so many fillers (5.2.2)."""
-        return self.crc(self.crc_of_code_block(), part)
+        return self.crc("CRC24B", part)
 
     def last_part(self, before: list[str], part: str) -> str:
         """The bits of the block with its CRC in the last of several code blocks."""

@@ -113,16 +113,11 @@ def encoder_of(clauses: Clauses, tables: TablesKey, graph: int, z: int, index: i
     return Encoder(clauses, tables.tables, graph, z, index)
 
 
-@functools.lru_cache(maxsize=None)
-def codes_right(kind: typing.Any) -> bool:
-    """Whether a class of clauses replaces nothing of coding."""
-    return all(getattr(kind, name) is it for name, it in vars(Coding).items() if not name.startswith("__"))
-
-
+@functools.lru_cache(maxsize=8192)
 def coding_of(clauses: Clauses) -> Clauses:
-    """The clauses of which only coding matters: the right ones if these have it right, so that encoders are made once."""
-    kind: typing.Any = type(clauses)
-    return right() if codes_right(kind) else clauses
+    """The clauses of which only coding matters: the right ones if these replace nothing of it, so that encoders are made once."""
+    kind = type(clauses)
+    return right() if all(getattr(kind, name) is it for name, it in vars(Coding).items() if not name.startswith("__")) else clauses
 
 
 class TablesKey:

@@ -13,10 +13,8 @@ import typing
 from linksim_tools.common.command_line import Commands, add_out, write
 from linksim_tools.common.message import shown
 from linksim_tools.common.program import Failed, Wrong
+from linksim_tools.conform.report import Report
 from linksim_tools.conform.run import Run
-
-if typing.TYPE_CHECKING:
-    from linksim_tools.conform.report import Report
 
 PROFILES = ("quick", "full")
 Does = typing.Callable[[argparse.Namespace], typing.Any]
@@ -53,7 +51,6 @@ class Words:
         return command, which
 
     def add_judges(self, check: Does, run: Does, kind: str) -> tuple[argparse.ArgumentParser, argparse.ArgumentParser]:
-        """Adds `check` and `run`."""
         one = self.add("check", check, "judges a file of answers", "answers.jsonl", out=False)
         one.add_argument("answers", metavar="ANSWERS", help="a file of answers, one a line")
         about = f"runs {kind}, the command after --, on a suite, and judges what it answers"

@@ -7,8 +7,7 @@ import itertools
 import re
 import typing
 
-if typing.TYPE_CHECKING:
-    from linksim_tools.conform.encoder.points import Facts
+from linksim_tools.conform.encoder.points import Facts, Test
 
 # Cases of a suite: a bit for each.
 Cases = int
@@ -22,12 +21,9 @@ ALIKE, FOR_ONE, FOR_TWO, FOR_LIMIT, AGAINST, EACH = 4, 2, 4, 8, 8, 4
 INFORMATIVE = 48
 
 # Properties that hold or not: words, words of the contrary, and the test.
-Test = typing.Callable[["Facts"], bool]
 YES_OR_NO: tuple[tuple[str, str, Test], ...] = (
-    ("C > 1", "C = 1", lambda it: it.c > 1),
-    ("C > 2", "C <= 2", lambda it: it.c > 2),
-    ("A > 3824", "A <= 3824", lambda it: it.a > 3824),
-    ("there are fillers", "there is no filler", lambda it: it.fillers > 0),
+    ("C > 1", "C = 1", lambda it: it.c > 1), ("C > 2", "C <= 2", lambda it: it.c > 2),
+    ("A > 3824", "A <= 3824", lambda it: it.a > 3824), ("there are fillers", "there is no filler", lambda it: it.fillers > 0),
     ("TBS_LBRM is given", "no TBS_LBRM is given", lambda it: it.case.lbrm is not None),
     ("Ncb < N", "Ncb = N", lambda it: it.ncb < it.plan.n),
     ("not all code blocks are sent", "all code blocks are sent", lambda it: len(it.scheduled) < it.c),
@@ -35,10 +31,8 @@ YES_OR_NO: tuple[tuple[str, str, Test], ...] = (
     ("Zc is odd", "Zc is even", lambda it: it.z % 2 > 0),
     ("Zc is a power of 2", "Zc is no power of 2", lambda it: it.z & (it.z - 1) == 0),
     ("Zc is the largest of its set", "Zc is not the largest of its set", lambda it: it.z > 192),
-    ("some E_r is no multiple of 8", "each E_r is a multiple of 8", lambda it: any(e % 8 for e in it.shares)),
-    ("some E_r is no multiple of 16", "each E_r is a multiple of 16", lambda it: any(e % 16 for e in it.shares)),
-    ("some E_r is no multiple of 32", "each E_r is a multiple of 32", lambda it: any(e % 32 for e in it.shares)),
-    ("some E_r is no multiple of 64", "each E_r is a multiple of 64", lambda it: any(e % 64 for e in it.shares)),
+    *((f"some E_r is no multiple of {n}", f"each E_r is a multiple of {n}", lambda it, n=n: any(e % n for e in it.shares))
+      for n in (8, 16, 32, 64)),
     ("some E_r / Qm is odd", "each E_r / Qm is even", lambda it: any(e // it.case.qm % 2 for e in it.shares)),
     ("some E_r / Qm is no multiple of 8", "each E_r / Qm is a multiple of 8",
      lambda it: any(e // it.case.qm % 8 for e in it.shares)),
@@ -52,10 +46,8 @@ YES_OR_NO: tuple[tuple[str, str, Test], ...] = (
     ("it wraps twice", "it does not wrap twice", lambda it: max(it.shares) > it.to_end + it.one_round),
     ("it wraps three times", "it does not wrap three times", lambda it: max(it.shares) > it.to_end + 2 * it.one_round),
     ("E_r is more than a round", "E_r is at most a round", lambda it: max(it.shares) > it.one_round),
-    ("Qm > 1", "Qm = 1", lambda it: it.case.qm > 1),
-    ("NL > 1", "NL = 1", lambda it: it.case.nl > 1),
-    ("rv > 0", "rv = 0", lambda it: it.case.rv > 0),
-    ("k0 > 0", "k0 = 0", lambda it: it.k0 > 0),
+    ("Qm > 1", "Qm = 1", lambda it: it.case.qm > 1), ("NL > 1", "NL = 1", lambda it: it.case.nl > 1),
+    ("rv > 0", "rv = 0", lambda it: it.case.rv > 0), ("k0 > 0", "k0 = 0", lambda it: it.k0 > 0),
     ("k0 stands amid the fillers", "k0 does not stand amid the fillers", lambda it: it.is_filler(it.k0)),
     ("Kb Zc = K'", "Kb Zc > K'", lambda it: it.plan.kb * it.z == it.plan.kdash),
     ("Kb < 10 at base graph 2", "Kb is 10 or 22", lambda it: it.graph == 2 and it.plan.kb < 10),
@@ -63,23 +55,20 @@ YES_OR_NO: tuple[tuple[str, str, Test], ...] = (
     ("fillers are passed after the wrap", "no filler is passed after the wrap", lambda it: it.fillers_passed_again),
     ("more than a column of fillers", "at most a column of fillers", lambda it: it.fillers > it.z),
     ("the last column of K has bits", "the last column of K has fillers alone", lambda it: it.fillers < it.z),
-    ("G > 65,535", "G <= 65,535", lambda it: it.case.g > 65_535),
-    ("K' > Ncb", "K' <= Ncb", lambda it: it.plan.kdash > it.ncb),
+    ("G > 65,535", "G <= 65,535", lambda it: it.case.g > 65_535), ("K' > Ncb", "K' <= Ncb", lambda it: it.plan.kdash > it.ncb),
     ("E_r < K' - 2 Zc", "some E_r >= K' - 2 Zc", lambda it: max(it.shares) < it.systematic),
     ("the block has ones", "the block is all zeros", lambda it: it.ones > 0),
     ("the block has a single one", "the block has not a single one", lambda it: it.ones == 1),
 )
 
-Number = typing.Callable[["Facts"], int]
-
-NUMBERS: dict[str, Number] = {"base graph": lambda it: it.graph, "set": lambda it: it.plan.set, "rv": lambda it: it.case.rv,
-                              "Qm": lambda it: it.case.qm, "NL": lambda it: it.case.nl, "C": lambda it: it.c,
-                              "Kb": lambda it: it.plan.kb, "Zc": lambda it: it.z, "A": lambda it: it.a,
-                              "2048 R": lambda it: it.rate, "B": lambda it: it.b, "C'": lambda it: len(it.scheduled),
-                              "G": lambda it: it.case.g, "Ncb": lambda it: it.ncb, "K'": lambda it: it.plan.kdash,
-                              "the largest E_r": lambda it: max(it.shares), "TBS_LBRM": lambda it: it.case.lbrm or 0,
-                              "k0": lambda it: it.k0, "k0 + E_r": lambda it: it.k0 + max(it.shares), "N": lambda it: it.plan.n,
-                              "the number of fillers": lambda it: it.fillers, "r": lambda it: it.scheduled[-1]}
+NUMBERS: dict[str, typing.Callable[[Facts], int]] = {
+    "base graph": lambda it: it.graph, "set": lambda it: it.plan.set, "rv": lambda it: it.case.rv, "Qm": lambda it: it.case.qm,
+    "NL": lambda it: it.case.nl, "C": lambda it: it.c, "Kb": lambda it: it.plan.kb, "Zc": lambda it: it.z, "A": lambda it: it.a,
+    "2048 R": lambda it: it.rate, "B": lambda it: it.b, "C'": lambda it: len(it.scheduled), "G": lambda it: it.case.g,
+    "Ncb": lambda it: it.ncb, "K'": lambda it: it.plan.kdash, "the largest E_r": lambda it: max(it.shares),
+    "TBS_LBRM": lambda it: it.case.lbrm or 0, "k0": lambda it: it.k0, "k0 + E_r": lambda it: it.k0 + max(it.shares),
+    "N": lambda it: it.plan.n, "the number of fillers": lambda it: it.fillers, "r": lambda it: it.scheduled[-1]
+}
 
 # Those whose values are asked for one by one, before the properties above (VALUES) and after them (FURTHER). Those of
 # ORDERED are asked for from a value on, and those of MULTIPLES for whether they are whole words.
@@ -167,11 +156,9 @@ class Common:
     """Finds what cases of a suite have in common. A case has the numbers of its transmissions, of which an encoder's has one;
     it has a property if one of them has it. `more` are further properties by case, and `order` is their order in the suite."""
 
-    def __init__(
-        self, cases: typing.Mapping[str, typing.Sequence[Facts]], more: typing.Mapping[str, typing.Iterable[str]] | None = None,
-        order: typing.Mapping[str, int] | None = None
-    ) -> None:
-        self.facts, self.more, self.order = cases, more or {}, order or {}
+    def __init__(self, cases: typing.Mapping[str, typing.Sequence[Facts]], more: typing.Mapping[str, typing.Iterable[str]] = {},
+                 order: typing.Mapping[str, int] = {}) -> None:
+        self.facts, self.more, self.order = cases, more, order
         self.places = {name: 1 << place for place, name in enumerate(cases)}
         self.numbers = {name: [[read(it) for it in facts] for facts in cases.values()] for name, read in NUMBERS.items()}
         self.whole = (1 << len(cases)) - 1
@@ -260,9 +247,6 @@ class Common:
         for it in self.properties:
             if not bad & ~it.cases and (failing >= FOR_LIMIT or not it.is_limit):
                 kept.setdefault(it.cases & good, it)
-        return [
-            (f"{one.words} and {two.words}", one.cases & two.cases)
-            for one, two in itertools.combinations(kept.values(), 2)
-            if not one.cases & two.cases & good and not (one.is_limit and two.is_limit)
-            and min(count(one.cases & good), count(two.cases & good)) >= EACH
-        ]
+        return [(f"{one.words} and {two.words}", one.cases & two.cases) for one, two in itertools.combinations(kept.values(), 2)
+                if not one.cases & two.cases & good and not (one.is_limit and two.is_limit)
+                and min(count(one.cases & good), count(two.cases & good)) >= EACH]

@@ -34,7 +34,7 @@ def listed(d: str) -> str:
     return "[" + ",".join(d).replace(lists.FILLER, "null") + "]"
 
 
-def vector_lines(head: Object, parts: typing.Sequence[str], sent: Object) -> typing.Iterator[str]:
+def vector_lines(head: Object, parts: typing.Iterable[str], sent: Object) -> typing.Iterator[str]:
     """The lines of a vector: one object, with the JSON text of a code block a line."""
     yield "{"
     for name, value in head.items():
@@ -96,9 +96,8 @@ def head_of(path: str | pathlib.Path, numbered: tuple[int, str], kind: str, want
     raise Failed(f"{path} is not a suite{whose}: its first line is not a suite header ({how}){''.join(others)}")
 
 
-def suite_of(
-    path: str | pathlib.Path, kind: str, wanted: typing.AbstractSet[str], case_of: typing.Callable[[Object], Read]
-) -> tuple[Object, Tables, dict[str, Read]]:
+def suite_of(path: str | pathlib.Path, kind: str, wanted: typing.AbstractSet[str],
+             case_of: typing.Callable[[Object], Read]) -> tuple[Object, Tables, dict[str, Read]]:
     """A suite of a kind: its head, in which this is wanted beside the table and the count, its table, and its cases by id."""
     lines = numbered_lines(path)
     head = head_of(path, next(lines, (1, "")), kind, {"table", "cases", *wanted})

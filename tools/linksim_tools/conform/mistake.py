@@ -52,11 +52,15 @@ class Catalogue:
         self.there[name] = Mistake(name, step, also, clause, wrong, change, made)
 
     def ordered(self) -> dict[str, Mistake]:
-        """The mistakes in the order of the steps."""
         return {it.name: it for it in sorted(self.there.values(), key=lambda it: self.steps.index(it.step))}
+
+
+def in_order(wrong: typing.Iterable[Mistake]) -> list[Mistake]:
+    """Mistakes by name, and those of one name by what is wrong."""
+    return sorted(wrong, key=lambda it: (it.name, it.wrong))
 
 
 def class_of(wrong: typing.Iterable[Mistake], right: type[typing.Any]) -> type[typing.Any]:
     """The class that makes these mistakes together, or the right one."""
-    made = tuple(it.made for it in sorted(wrong, key=lambda it: it.name))
+    made = tuple(it.made for it in in_order(wrong))
     return type("Wrong", made, {}) if made else right

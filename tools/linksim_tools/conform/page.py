@@ -5,8 +5,7 @@ from __future__ import annotations
 import html
 import typing
 
-if typing.TYPE_CHECKING:
-    from linksim_tools.conform.report import Report
+from linksim_tools.conform.report import Report
 
 MARKS = {"pass": "\u2713", "fail": "\u2717", "none": "\u2013"}
 STYLE = """

@@ -29,14 +29,9 @@ class Record:
     seed: int | None
 
     def lines(self) -> list[str]:
-        """The same in words."""
-        seed = "" if self.seed is None else f", seed {self.seed}"
-        return [
-            f"judged: {self.command}",
-            f"on {self.date} by the tools of linksim {self.tools}",
-            f"suite: {self.suite}, profile {self.profile}{seed}, made by linksim {self.program}, "
-            f"table's fingerprint {self.fingerprint}",
-        ]
+        suite = f"{self.suite}, profile {self.profile}" + ("" if self.seed is None else f", seed {self.seed}")
+        return [f"judged: {self.command}", f"on {self.date} by the tools of linksim {self.tools}",
+                f"suite: {suite}, made by linksim {self.program}, table's fingerprint {self.fingerprint}"]
 
 
 def record_of(judged: typing.Sequence[str], suite: typing.Any) -> Record:
@@ -61,7 +56,6 @@ class Step:
     unjudged: int | None = None
 
     def as_object(self) -> Object:
-        """The step as JSON has it."""
         unjudged = {} if self.unjudged is None else {"unjudged": self.unjudged}
         return {"name": self.name, "pass": self.passing, "fail": len(self.failing), "not_answered": self.not_answered,
                 **unjudged, "failing": self.failing}
@@ -95,7 +89,6 @@ class Report:
 
     @property
     def fails(self) -> bool:
-        """Whether something differs."""
         return any(step.failing for step in self.steps.values())
 
     def status(self) -> int:
@@ -121,7 +114,6 @@ class Report:
         yield "</testsuite>"
 
     def as_object(self) -> Object:
-        """What JSON has of every report."""
         return {"record": dataclasses.asdict(self.record) if self.record else None, "suite": self.suite.path,
                 "profile": self.suite.profile, "cases": len(self.suite.cases), "answered": self.answered, "troubles": self.troubles,
                 "notes": self.notes, "steps": {step: it.as_object() for step, it in self.steps.items()}}

@@ -56,7 +56,6 @@ class Run(typing.Generic[Wanted]):
         return self.command
 
     def end(self) -> None:
-        """Ends the command if it runs."""
         if self.command is not None:
             self.command.end()
             self.left_out += self.command.left_out
@@ -93,10 +92,8 @@ class Run(typing.Generic[Wanted]):
         if command.left:
             self.take(wanted, self.seconds)
             return
-        try:
+        with contextlib.suppress(Stopped):
             self.take(wanted, min(self.seconds, GRACE))
-        except Stopped:
-            pass
 
     def stopped(self, place: str, why: Stopped, goes_on: bool = False) -> bool:
         """Ends the command where it has stopped, and says whether another may be started for what comes next. One that is
@@ -110,5 +107,4 @@ class Run(typing.Generic[Wanted]):
         return goes_on
 
     def notes(self) -> list[str]:
-        """What was left out, in words."""
         return left_out(self.left_out)

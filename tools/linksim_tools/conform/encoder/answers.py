@@ -9,18 +9,15 @@ from linksim_tools.common.message import shown
 from linksim_tools.conform import bits as lists
 from linksim_tools.conform.answer_lines import Repeated, Wrong, object_of, pairs_of, taken_from
 from linksim_tools.conform.case import PLAN, Answer
+from linksim_tools.conform.encoder.suite import Suite
 from linksim_tools.conform.files import Object
 
-if typing.TYPE_CHECKING:
-    from linksim_tools.conform.encoder.suite import Suite
-
-LISTS = ("bits", "d", "e", "f")
-NAMES = ("id", "attached", "plan", "codeblocks", *LISTS, "k0", "Ncb", "E", "sent")
+LISTS, NUMBERS = ("bits", "d", "e", "f"), ("k0", "Ncb", "E")
 
 # A list without a bit, in plain words.
 NONE = "none"
 
-# What a suite's own line has beside these names: a vector is an answer too.
+# What a suite's own line has beside the names of an answer: a vector is an answer too.
 PASSED_OVER = ("a", "covers", "rate2048", "lbrm", "transmission")
 
 
@@ -34,7 +31,6 @@ def most_octets(suite: Suite) -> int:
 
 
 def whole_number(name: str, value: int) -> int:
-    """A whole number under a name."""
     if type(value) is not int:
         raise Wrong(f"{name} is not a whole number")
     return value
@@ -60,11 +56,11 @@ def numbers_of_blocks(name: str, value: int | list[int]) -> list[int]:
     return [whole_number(name, it) for it in (value if isinstance(value, list) else [value])]
 
 
-def plan_of(value: dict[str, int]) -> dict[str, int]:
+def plan_of(name: str, value: dict[str, int]) -> dict[str, int] | None:
     """The numbers of a plan, as many of them as are there."""
     if not isinstance(value, dict) or not value.keys() <= set(PLAN):
-        raise Wrong("plan has other names than " + ", ".join(PLAN))
-    return {name: whole_number(f"plan.{name}", it) for name, it in value.items()}
+        raise Wrong(f"{name} has other names than " + ", ".join(PLAN))
+    return {number: whole_number(f"{name}.{number}", it) for number, it in value.items()} or None
 
 
 def one_for_all(name: str, value: int | list[int]) -> int:
@@ -79,10 +75,10 @@ def from_blocks(blocks: list[Object]) -> Object:
     """The names of `codeblocks`, each with the values of all code blocks."""
     if not isinstance(blocks, list) or not all(isinstance(it, dict) for it in blocks) or not blocks:
         raise Wrong("codeblocks is not a list of objects")
-    known = {"r", *LISTS, "k0", "Ncb", "E"}
     names = {name for it in blocks for name in it}
-    if not names <= known:
-        raise Wrong(f"codeblocks has an unknown name: {shown(min(names - known))}")
+    strange = names - {"r", *LISTS, *NUMBERS}
+    if strange:
+        raise Wrong(f"codeblocks has an unknown name: {shown(min(strange))}")
     if [it.get("r", r) for r, it in enumerate(blocks)] != list(range(len(blocks))):
         raise Wrong("codeblocks is not in the order r = 0, 1, ..")
     lacking = sorted(name for name in names - {"r"} for it in blocks if name not in it)
@@ -92,21 +88,20 @@ def from_blocks(blocks: list[Object]) -> Object:
 
 
 READ: dict[str, typing.Callable[[str, typing.Any], typing.Any]] = {
-    "attached": bits, "sent": bits, "plan": lambda name, value: plan_of(value), "E": numbers_of_blocks, "k0": one_for_all,
-    "Ncb": one_for_all, **dict.fromkeys(LISTS, bits_of_blocks)
+    "attached": bits, "plan": plan_of, **dict.fromkeys(LISTS, bits_of_blocks), "k0": one_for_all, "Ncb": one_for_all,
+    "E": numbers_of_blocks, "sent": bits
 }
 
 
 def from_object(value: Object) -> Answer:
     """The values of an answer that was JSON."""
-    strange = value.keys() - set(NAMES) - set(PASSED_OVER)
+    strange = value.keys() - {"id", "codeblocks", *READ, *PASSED_OVER}
     if strange:
         raise Wrong(f"unknown name: {shown(min(strange))}")
     named = {name: it for name, it in value.items() if name in READ}
     if "codeblocks" in value:
         named.update(from_blocks(value["codeblocks"]))
     found = Answer(**{name: READ[name](name, it) for name, it in named.items()})
-    found.plan = found.plan or None
     found.graph = (found.plan or {}).get("graph")
     return found
 
@@ -119,27 +114,22 @@ def digits_of(name: str, text: str) -> list[int]:
     return list(map(int, numbers))
 
 
-def bits_of_word(text: str) -> list[str]:
-    """The lists of bits of a plain word, told apart by commas; one without a bit is `none`."""
-    return ["" if it == NONE else it for it in text.split(",")]
-
-
 def from_words(words: list[str]) -> Object:
     """The object of an answer of plain words: a name and a value in turn, code blocks told apart by commas."""
     value: Object = {}
     plan: Object = {}
     for name, text in pairs_of(words):
-        if name in PLAN or name in ("k0", "Ncb", "E"):
+        if name in PLAN or name in NUMBERS:
             numbers = digits_of(name, text)
             (plan if name in PLAN else value)[name] = numbers if name == "E" else numbers[0]
         else:
-            value[name] = bits_of_word(text) if name in LISTS else "" if text == NONE else text
+            parts = ["" if it == NONE else it for it in (text.split(",") if name in LISTS else [text])]
+            value[name] = parts if name in LISTS else parts[0]
     return {**value, "plan": plan} if plan else value
 
 
-def answer_of(
-    line: bytes, plain: bool, suite: Suite, there: typing.Collection[str], wanted: str | None = None
-) -> tuple[str, Answer]:
+def answer_of(line: bytes, plain: bool, suite: Suite, there: typing.Collection[str],
+              wanted: str | None = None) -> tuple[str, Answer]:
     """The id and the values of a line; `there` was answered before it, and the case `wanted` was asked for."""
     name, value = object_of(line, from_words if plain else None)
     if name in there:
@@ -157,9 +147,4 @@ def answer_of(
 def read(path: str | pathlib.Path, suite: Suite, plain: bool) -> tuple[dict[str, Answer], list[str], list[str]]:
     """The answers of a file by id, lines about what could not be judged, and notes."""
     there: dict[str, Answer] = {}
-
-    def take(line: bytes) -> None:
-        name, values = answer_of(line, plain, suite, there)
-        there[name] = values
-
-    return (there, *taken_from(path, most_octets(suite), take))
+    return (there, *taken_from(path, most_octets(suite), lambda line: there.update([answer_of(line, plain, suite, there)])))

@@ -3,27 +3,21 @@
 from __future__ import annotations
 
 import argparse
-import typing
 
 from linksim_tools.common.command_line import add_out, hint
 from linksim_tools.common.message import shown
+from linksim_tools.conform.bits import PACKINGS
+from linksim_tools.conform.case import FIELDS, Answer
 from linksim_tools.conform.commands import Words, chosen, command_of, reported, save, written
-from linksim_tools.conform.encoder import alike, design, plain, points
-from linksim_tools.conform.encoder import again as asking
 from linksim_tools.conform.encoder import answers as answering
+from linksim_tools.conform.encoder import listing, points
 from linksim_tools.conform.encoder import page as pages
 from linksim_tools.conform.encoder import report as reporting
 from linksim_tools.conform.encoder import run as running
-from linksim_tools.conform.encoder import show as showing
 from linksim_tools.conform.encoder import suite as suites
-from linksim_tools.conform.bits import PACKINGS
 from linksim_tools.conform.report import record_of
 from linksim_tools.conform.run import until_interrupted
-from linksim_tools.conform.steps import FIELDS
 from linksim_tools.rtl import beats, suite_files
-
-if typing.TYPE_CHECKING:
-    from linksim_tools.conform.case import Answer
 
 EXAMPLES = """
 examples:
@@ -34,26 +28,8 @@ examples:
 Exit status: 0 if all answers agree, 1 if any differs or could not be judged, or a file could not be
 read, 2 for a usage error.
 """
-ABOUT = (
-    "Conformance of an encoder with TS 38.212: a suite of cases, and a check that names the mistake; "
-    "`receiver` before COMMAND does the same for a receiver."
-)
-
-
-def point_lines() -> typing.Iterator[str]:
-    """The points with the number of cases of each profile."""
-    return points.lines({profile: design.designed(profile, 1) for profile in design.PROFILES})
-
-
-def plain_lines(path: str) -> typing.Iterator[str]:
-    """The cases of a suite as plain words."""
-    suite = suites.read(path)
-    return (plain.line_of(case, suite.values[case.id].plan.c) for case in suite.cases.values())
-
-
-def mistake_lines(path: str) -> typing.Iterator[str]:
-    """The mistakes that the check knows, each with the number of cases that show it."""
-    return alike.lines(suites.read(path))
+ABOUT = ("Conformance of an encoder with TS 38.212: a suite of cases, and a check that names the mistake; "
+         "`receiver` before COMMAND does the same for a receiver.")
 
 
 def export(given: argparse.Namespace) -> None:
@@ -76,12 +52,11 @@ def judged(given: argparse.Namespace, suite: suites.Suite, answers: dict[str, An
     save(given.coverage, points.coverage([suite.cases[name] for name in suite.cases if name in made.names], failing))
     if getattr(given, "twice", False) and not running.Run.interrupted:
         with until_interrupted(made.troubles):
-            made.twice = asking.again(form_of(given), suite, answers, failing)
+            made.twice = running.again(form_of(given), suite, answers, failing)
     return reported(given, made, reporting.text(made), pages.lines(made))
 
 
 def check(given: argparse.Namespace) -> int:
-    """Judges a file of answers."""
     suite = suites.read(given.suite)
     answers, troubles, notes = answering.read(given.answers, suite, given.plain)
     suite = chosen(suite, given.only)
@@ -90,18 +65,35 @@ def check(given: argparse.Namespace) -> int:
 
 
 def form_of(given: argparse.Namespace) -> running.Form:
-    """How an encoder is asked."""
     return running.Form(command_of(given), given.plain, given.pack, given.seconds, given.skip)
 
 
 def run(given: argparse.Namespace) -> int:
-    """Runs an encoder and judges what it answers."""
     form, suite = form_of(given), chosen(suites.read(given.suite), given.only)
     return judged(given, suite, *running.answers(form, suite), given.command)
 
 
+def names_of(text: str) -> list[str]:
+    """Names of an answer with commas between."""
+    names = text.split(",")
+    odd = [name for name in names if name not in FIELDS]
+    if odd:
+        raise argparse.ArgumentTypeError(f"{shown(odd[0])} is not one of {', '.join(FIELDS)}")
+    return names
+
+
+def add_judges(words: Words) -> None:
+    one, two = words.add_judges(check, run, "an encoder")
+    two.add_argument("--twice", action="store_true", help="asks failing cases again, alone and after themselves")
+    two.add_argument("--pack", choices=PACKINGS, default="hex", help="how the block is written (hex)")
+    for command in (one, two):
+        command.add_argument("--coverage", metavar="FILE",
+                             help="a file of the points that the answered cases cover, and of how many fail")
+        command.add_argument("--require", type=names_of, action="extend", default=[], metavar="NAME,..",
+                             help="status 1 if a case lacks one of these names of an answer, as sent")
+
+
 def add_export(words: Words) -> None:
-    """Adds `export`."""
     about = "writes a suite as memory files by code block, for testbenches"
     command = words.add("export", export, about, "--form axis --width 64 --out memories", out=False)
     command.add_argument("dir", nargs="?", help=argparse.SUPPRESS)
@@ -112,45 +104,22 @@ def add_export(words: Words) -> None:
     command.add_argument("--first", choices=beats.FIRSTS, default="lsb", help="the first bit of a beat: lowest or highest (lsb)")
 
 
-def add_suite(words: Words) -> None:
-    """Adds `suite`."""
-    command, which = words.add_suite(written(suites.written, "table", "profile", "seed", "pack", "cases"))
-    which.add_argument("--cases", metavar="FILE", help="your own cases, as lines of plain words")
-    command.add_argument("--pack", choices=PACKINGS, default="hex", help="how lists of bits are written (hex)")
-
-
-def names_of(text: str) -> list[str]:
-    """Names of an answer with commas between."""
-    odd = [name for name in text.split(",") if name not in FIELDS]
-    if odd:
-        raise argparse.ArgumentTypeError(f"{shown(odd[0])} is not one of {', '.join(FIELDS)}")
-    return text.split(",")
-
-
-def add_judges(words: Words) -> None:
-    """Adds `check` and `run`."""
-    one, two = words.add_judges(check, run, "an encoder")
-    two.add_argument("--twice", action="store_true", help="asks failing cases again, alone and after themselves")
-    two.add_argument("--pack", choices=PACKINGS, default="hex", help="how the block is written (hex)")
-    for command in (one, two):
-        command.add_argument("--coverage", metavar="FILE", help="a file of the points that the answered cases cover, and of how many fail")
-        command.add_argument("--require", type=names_of, action="extend", default=[], metavar="NAME,..",
-                             help="status 1 if a case lacks one of these names of an answer, as sent")
-
-
 def options(with_kinds: bool) -> argparse.ArgumentParser:
     """The command line's parser. It shows the words `encoder` and `receiver` if neither was written."""
     words = Words(ABOUT, EXAMPLES)
-    add_suite(words)
+    suite, which = words.add_suite(written(suites.written, "table", "profile", "seed", "pack", "cases"))
+    which.add_argument("--cases", metavar="FILE", help="your own cases, as lines of plain words")
+    suite.add_argument("--pack", choices=PACKINGS, default="hex", help="how lists of bits are written (hex)")
     add_judges(words)
-    words.add("plain", written(plain_lines, "suite"), "writes the cases of a suite as lines of plain words", "--out cases.txt")
+    words.add("plain", written(listing.plain, "suite"), "writes the cases of a suite as lines of plain words", "--out cases.txt")
     said = "writes one case of a suite as a set of vectors holds it"
-    shows = words.add("show", written(showing.lines, "suite", "id"), said, "kb-560")
+    shows = words.add("show", written(listing.show, "suite", "id"), said, "kb-560")
     shows.add_argument("id", metavar="ID", help="the id of the case")
-    words.add("mistakes", written(mistake_lines, "suite"), "writes the known mistakes, each with the number of cases that show it")
+    said = "writes the known mistakes, each with the number of cases that show it"
+    words.add("mistakes", written(listing.mistakes, "suite"), said)
     add_export(words)
-    words.add("points", written(point_lines), "writes the points of the clauses, each with the number of cases that cover it",
-              suite=False)
+    said = "writes the points of the clauses, each with the number of cases that cover it"
+    words.add("points", written(listing.profile_points), said, suite=False)
     if with_kinds:
         words.whole.commands.add_parser("encoder", help="before one of these words: of an encoder, as without it")
         words.whole.commands.add_parser("receiver", help="before one of these words: the same of a receiver")

@@ -12,7 +12,6 @@ from linksim_tools.conform.case import Case
 from linksim_tools.conform.clauses import right
 from linksim_tools.conform.encoder.points import LIMITS, Facts, first_sizes
 
-PROFILES = ("quick", "full")
 SYMBOLS, LAYERS = (1, 2, 4, 6, 8), (1, 2, 3, 4)
 
 # The lifting sizes whose last information column has bits of the block and no filler, by base graph and set index.
@@ -20,11 +19,6 @@ ROOMY = {1: (32, 48, 40, 28, 36, 44, 52, 60), 2: (128, 96, 80, 112, 72, 88, 104,
 
 # What is sent of each code block, in the terms of points.
 EXTENTS = ("short", "fillers", "end", "round", "twice")
-
-
-def rate_for(graph: int, a: int) -> int:
-    """A code rate by which a block of this size takes the base graph."""
-    return next(rate for rate in (2048, 512) if right().base_graph(a, rate) == graph)
 
 
 class Designer:
@@ -36,13 +30,10 @@ class Designer:
 
     def block(self, name: str, a: int, pattern: int | str) -> str:
         """A block of `a` bits: zeros, ones, a single one at a place, or drawn."""
-        if pattern == "zeros":
-            return "0" * a
-        if pattern == "ones":
-            return "1" * a
         if isinstance(pattern, int):
-            return "0" * pattern + "1" + "0" * (a - 1 - pattern)
-        return f"{random.Random(f'{self.seed} {name}').getrandbits(a):0{a}b}"
+            return "1".rjust(pattern + 1, "0").ljust(a, "0")
+        drawn = random.Random(f"{self.seed} {name}").getrandbits(a)
+        return {"zeros": "0" * a, "ones": "1" * a}.get(pattern, f"{drawn:0{a}b}")
 
     def add(self, name: str, a: int, rate: int, extent: str = "round", pattern: int | str = "random", limit: int | None = None,
             over: int = 0, *, lbrm: int | None = None, rv: int = 0, g: int | None = None, qm: int = 1, nl: int = 1,
@@ -101,17 +92,12 @@ def single_ones(design: Designer, sets_of: typing.Callable[[int], typing.Iterabl
             design.add(f"one-{graph}-{column}-set{index}", last, rate, pattern=place)
 
 
-def crc_and_graph_cases(design: Designer) -> None:
-    """Sizes and rates at the limits of 6.2.1 and 6.2.2."""
+def sizes(design: Designer) -> None:
+    """Sizes and rates at the limits of 6.2.1 and 6.2.2, sizes at the limits of Kb and Kcb, and several code blocks."""
     for a, rate in (*LIMITS, (3816, 1371)):
         design.add(f"limit-{a}-{rate}", a, rate, g=2 * a)
-    design.add("limit-8-511", 8, 511)
-    design.add("limit-3832-511", 3832, 511, "short")
-    design.add("limit-3832-300", 3832, 300, "short")
-
-
-def segmentation_cases(design: Designer) -> None:
-    """Sizes at the limits of Kb and Kcb, and several code blocks."""
+    for a, rate, extent in ((8, 511, "round"), (3832, 511, "short"), (3832, 300, "short")):
+        design.add(f"limit-{a}-{rate}", a, rate, extent)
     for b in (192, 200, 560, 568, 640, 648):
         design.add(f"kb-{b}", b - 16, 1024)
     for a, rate in ((8424, 2048), (8432, 2048), (3824, 511)):
@@ -120,10 +106,7 @@ def segmentation_cases(design: Designer) -> None:
     design.add("many-2-3", 7656, 512, "short", qm=4, nl=2)
     design.add("many-1-4", 25312, 2048, g=33000, qm=6, nl=2)
     design.add("many-2-4", 15216, 512, g=16000, qm=8)
-
-
-def second_sides(design: Designer) -> None:
-    """Further sizes at the sides of each limit: with two cases at each, a limit that is another one has a name of its own."""
+    # Further sizes at the sides of each limit: with two cases at each, a limit that is another one has a name of its own.
     for b in (184, 208, 552, 576, 632, 656):
         design.add(f"kb-{b}", b - 16, 1024)
     for a, rate in ((280, 2048), (304, 2048), (4000, 512), (4000, 513)):
@@ -143,29 +126,20 @@ def second_sides(design: Designer) -> None:
         design.add(f"ten-{name}", 10 * 3816 - 24, 512, "short", mask=mask, qm=2, nl=3, over=over, rv=2)
 
 
-def patterns(design: Designer) -> None:
-    """Blocks of zeros and of ones."""
+def buffers(design: Designer) -> None:
+    """Blocks of zeros and of ones. Limited buffers at each redundancy version, and what is read of whole ones."""
     for graph, a, rate in ((1, 600, 2048), (2, 704, 1024)):
         for pattern in ("zeros", "ones"):
             design.add(f"{pattern}-{graph}", a, rate, pattern=pattern)
-
-
-def buffer_cases(design: Designer) -> None:
-    """Limited buffers at each redundancy version, and what is read of whole ones."""
-    for graph, a, rate in ((1, 296, 2048), (2, 24, 2048)):
-        for version, (limit, extent) in enumerate(((7, "round"), (13, "round"), (60, "twice"), (80, "end"))):
-            if graph == 1:
-                limit = (15, 29, 61, 81)[version]
+    for graph, a, rate, limits in ((1, 296, 2048, (15, 29, 61, 81)), (2, 24, 2048, (7, 13, 60, 80))):
+        for version, (limit, extent) in enumerate(zip(limits, ("round", "round", "twice", "end"))):
             design.add(f"limited-{graph}-rv{version}", a, rate, extent, limit=limit, rv=version)
         design.add(f"limited-{graph}-n", a, rate, "twice", limit=130, rv=1)
         design.add(f"fillers-{graph}", a, rate, "fillers", qm=2)
         design.add(f"short-{graph}", a, rate, "short", qm=4)
     # C = 2 and TBS_LBRM = 3 modulo 4: rounding down twice gives another Ncb.
     design.add("limited-floor", 3832, 512, "round", lbrm=10_007, rv=1)
-
-
-def schedule_cases(design: Designer) -> None:
-    """Some code blocks alone, and G shared out in every way."""
+    # Some code blocks alone, and G shared out in every way.
     a, rate = 7656, 512
     design.add("mask-single", a, rate, "short", mask="1", qm=2, rv=2, lbrm=9_001)
     design.add("mask-hole", a, rate, g=1204, mask="0 2", qm=4, rv=1)
@@ -176,18 +150,16 @@ def schedule_cases(design: Designer) -> None:
     design.add("shares-zero", a, rate, g=4, qm=2, rv=3)
 
 
-def whole_words(design: Designer) -> None:
-    """All of d at the largest lifting sizes, and of several code blocks without a filler."""
+def whole_and_shared(design: Designer) -> None:
+    """All of d at the largest lifting sizes, and of several code blocks without a filler; G shared out to several code blocks."""
     for graph, z in ((1, 352), (1, 384), (2, 384)):
         _, last, rate = first_sizes()[graph, z]
         design.add(f"whole-{graph}-{z}", last, rate)
     # B = 8424 C: no code block has a filler.
     design.add("many-1-whole", 2 * 8424 - 24, 2048, "twice", rv=1)
     design.add("many-2-whole", 2 * 3816 - 24, 512, qm=2, nl=2, rv=2)
-
-
-def shared_out(design: Designer) -> None:
-    """G shared out to several code blocks at each NL, and to some of them; what is left over is 1, or all but 1."""
+    # G shared out to several code blocks at each NL, and to some of them; what is left over is 1, or all but 1. Then TBS_LBRM whose
+    # threefold takes more than 31 and more than 32 bits, and limits of several code blocks at each rv.
     a, rate = 7656, 512
     for layers, symbol, over in ((2, 1, 1), (2, 6, 2), (3, 2, 2), (4, 4, 1), (4, 8, 2)):
         design.add(f"layers-{layers}-{symbol}", a, rate, "short", qm=symbol, nl=layers, rv=layers % 4, over=over)
@@ -196,15 +168,12 @@ def shared_out(design: Designer) -> None:
         name = "mask-" + mask.replace(" ", "-and-")
         design.add(name, 15216, rate, "short", mask=mask, qm=2, nl=1 + over, rv=over, over=over)
     design.add("mask-limited", 15216, rate, "round", mask="0-1 3", qm=4, rv=3, limit=40, over=2)
-
-
-def wide_limits(design: Designer) -> None:
-    """TBS_LBRM whose threefold takes more than 31 and more than 32 bits; limits of several code blocks at each rv."""
-    for name, limit in (("31", 2**31 // 3 + 101), ("32", 2**32 // 3 + 101)):
-        design.add(f"limited-wide-{name}", 24, 2048, "twice", lbrm=limit, rv=2)
-        design.add(f"limited-wide-several-{name}", 7656, 512, "short", lbrm=limit, rv=3, qm=2)
+    for bits in (31, 32):
+        lbrm = 2**bits // 3 + 101
+        design.add(f"limited-wide-{bits}", 24, 2048, "twice", lbrm=lbrm, rv=2)
+        design.add(f"limited-wide-several-{bits}", a, rate, "short", lbrm=lbrm, rv=3, qm=2)
     for version, limit in enumerate((23, 37, 61, 85)):
-        design.add(f"limited-several-rv{version}", 7656, 512, "round", limit=limit, rv=version, qm=2)
+        design.add(f"limited-several-rv{version}", a, rate, "round", limit=limit, rv=version, qm=2)
 
 
 def long_cases(design: Designer) -> None:
@@ -218,8 +187,7 @@ def long_cases(design: Designer) -> None:
 
 def quick(design: Designer) -> None:
     """At most 190 cases."""
-    for part in (crc_and_graph_cases, segmentation_cases, second_sides, patterns, buffer_cases, schedule_cases, whole_words,
-                 shared_out, wide_limits):
+    for part in (sizes, buffers, whole_and_shared):
         part(design)
     single_ones(design, lambda column: [column % 8])
     lifting_cases(design)
@@ -247,22 +215,20 @@ def every_transmission(design: Designer) -> None:
 
 
 def several_code_blocks(design: Designer) -> None:
-    """Two to eight code blocks, all and some of them, at each Qm."""
-    counts: dict[tuple[int | str, ...], int] = {}
+    """Two to eight code blocks, all and some of them, at each Qm. Several code blocks without a filler, each Qm with each NL of
+    several code blocks, and many bits of one."""
+    counts: dict[tuple[int, int], int] = {}
+    after: dict[tuple[int, int], int] = {}
     for graph, a in itertools.product(GRAPHS, itertools.chain(range(3832, 31000, 8), range(31000, 70000, 800))):
-        rate = rate_for(graph, a)
-        c, exact = pieces(graph, a)
-        if c > 1 and exact and counts.setdefault((graph, c), 0) < 3 and a > counts.get((graph, c, "after"), 0):
-            counts[graph, c] += 1
-            counts[graph, c, "after"] = a + 1500
-            symbol, layers = SYMBOLS[counts[graph, c] % 5], LAYERS[c % 4]
-            mask = ("all", f"0 {c - 1}", f"1-{c - 1}")[counts[graph, c] - 1]
-            design.add(f"several-{graph}-{c}-{a}", a, rate, "short", over=1, limit=(None, 45, 80)[c % 3],
-                       qm=symbol, nl=layers, mask=mask, rv=counts[graph, c] % 4)
-
-
-def several_whole(design: Designer) -> None:
-    """Several code blocks without a filler, each Qm with each NL of several code blocks, and many bits of one."""
+        rate = next(rate for rate in (2048, 512) if right().base_graph(a, rate) == graph)
+        plan = right().plan_of(a, rate)
+        key, is_exact = (graph, plan.c), (plan.b + plan.c * plan.l) % plan.c == 0
+        if plan.c > 1 and is_exact and counts.get(key, 0) < 3 and a > after.get(key, 0):
+            count = counts[key] = counts.get(key, 0) + 1
+            after[key] = a + 1500
+            mask = ("all", f"0 {plan.c - 1}", f"1-{plan.c - 1}")[count - 1]
+            design.add(f"several-{graph}-{plan.c}-{a}", a, rate, "short", over=1, limit=(None, 45, 80)[plan.c % 3],
+                       qm=SYMBOLS[count % 5], nl=LAYERS[plan.c % 4], mask=mask, rv=count % 4)
     for c in (2, 3, 5):
         design.add(f"filled-1-{c}", 8424 * c - 24, 2048, "round", rv=c % 4, qm=2)
     for symbol, layers in itertools.product(SYMBOLS, LAYERS):
@@ -271,23 +237,14 @@ def several_whole(design: Designer) -> None:
         design.add(f"repeated-{graph}", a, rate, g=70_000, rv=3)
 
 
-def pieces(graph: int, a: int) -> tuple[int, bool]:
-    """C of a block in a base graph, and whether it can be cut into so many of one length."""
-    plan = right().plan_of(a, rate_for(graph, a))
-    return plan.c, (plan.b + plan.c * plan.l) % plan.c == 0
-
-
 def full(design: Designer) -> None:
     """At most 1,100 cases."""
     quick(design)
-    there = set(design.cases)
     single_ones(design, lambda column: [it for it in range(8) if it != column % 8])
     every_size(design)
     every_transmission(design)
     several_code_blocks(design)
-    several_whole(design)
     long_cases(design)
-    assert there < set(design.cases)
 
 
 def designed(profile: str, seed: int) -> list[Case]:

@@ -7,12 +7,11 @@ import typing
 
 from linksim_tools.common.graphs import GRAPHS
 from linksim_tools.conform import bits as lists
-from linksim_tools.conform.case import Plan
+from linksim_tools.conform.case import STEPS, Plan
 from linksim_tools.conform.clauses import Impossible
 from linksim_tools.conform.encoder import displacement
-from linksim_tools.conform.encoder.judging import NOTHING, Trial, same
 from linksim_tools.conform.encoder.displacement import first_place
-from linksim_tools.conform.steps import STEPS
+from linksim_tools.conform.encoder.judging import NOTHING, Trial, same
 
 # How many entries of a row are shown.
 SHOWN = 24
@@ -21,9 +20,10 @@ SHOWN = 24
 AROUND = 32
 
 
-def listed(numbers: list[int]) -> str:
-    """A list of numbers, the first of many."""
-    return ", ".join(map(str, numbers[:SHOWN])) + (", .." if len(numbers) > SHOWN else "")
+def listed(items: typing.Iterable[object], between: str) -> str:
+    """Items in words, the first of many."""
+    words = [*map(str, items)]
+    return between.join([*words[:SHOWN], ".."] if len(words) > SHOWN else words)
 
 
 def beside(found: str, right: str, place: int) -> list[str]:
@@ -61,28 +61,36 @@ class Difference:
         found, right = getattr(self.answer, field), getattr(self.right, field)
         if field == "sent":
             found, right = [found], ["".join(self.right.f)]
-        differing = (it for it, (one, two) in enumerate(zip(found, right)) if one != two)
-        r = next(differing, 0)
+        r = next((r for r, (one, two) in enumerate(zip(found, right)) if one != two), 0)
         place = first_place(found[r], right[r])
         if not 0 <= place < len(right[r]):
             return None
-        return self.spot_of(field, r, place)
-
-    def spot_of(self, field: str, r: int, place: int) -> Spot | None:
-        """The same of a place of a list of code block r."""
         if field == "sent":
-            for r, part in enumerate(self.right.f):
-                if place < len(part):
-                    break
-                place -= len(part)
-            field = "f"
-        if field == "f":
-            j, i = divmod(place, self.case.qm)
-            field, place = "e", i * (len(self.right.e[r]) // self.case.qm) + j
-        if field == "e":
-            places = self.places(r)
-            place = places[place % len(places)]
-        return Spot(r, place)
+            r, place = self.in_f(place)
+        if field in ("f", "sent"):
+            place = self.in_e(r, place)
+        return Spot(r, place if field == "d" else self.in_d(r, place)[0])
+
+    def in_f(self, place: int) -> tuple[int, int]:
+        """The code block of a bit that is sent, and its place in f there."""
+        for r, part in enumerate(self.right.f):
+            if place < len(part):
+                break
+            place -= len(part)
+        return r, place
+
+    def in_e(self, r: int, place: int) -> int:
+        """The place in e from which a bit of f comes."""
+        j, i = divmod(place, self.case.qm)
+        return i * (len(self.right.e[r]) // self.case.qm) + j
+
+    def in_d(self, r: int, place: int) -> tuple[int, int, bool]:
+        """The place in d from which a bit of e comes, the round of the buffer, and whether it is the first place of a round."""
+        d, length, first = self.right.d[r], self.right.Ncb, self.right.k0
+        ring = [at % length for at in range(first, first + length)]
+        places = [at for at in ring if d[at] != lists.FILLER]
+        turn, at = divmod(place, len(places))
+        return places[at], turn + 1, places[at] == min(places)
 
     def expected(self, field: str) -> typing.Any:
         """What is right under a name, of what was answered before it."""
@@ -92,8 +100,7 @@ class Difference:
             return getattr(self.right, field)
 
     def lines(self) -> list[str]:
-        """What differs: one line or a few."""
-        fields = [field for field in STEPS[self.step][1] if getattr(self.answer, field) is not None]
+        fields = self.trial.answered(STEPS[self.step][1])
         field = next((it for it in fields if not same(it, getattr(self.answer, it), self.expected(it))), fields[0])
         found, right = getattr(self.answer, field), self.expected(field)
         lines: list[str] = [*getattr(self, f"of_{field}")(found, right), *self.around]
@@ -126,7 +133,7 @@ class Difference:
         case = self.case
         return [f"E of code block r = {r} is {found[r]}, right is {right[r]} (5.4.2.1)",
                 f"G = {case.g}, NL = {case.nl}, Qm = {case.qm}, sent are {case.mask} of C = {self.plan.c} code blocks",
-                f"E given {listed(found)}, right {listed(right)}"]
+                f"E given {listed(found, ', ')}, right {listed(right, ', ')}"]
 
     def bit(self, found: str, right: str, what: str) -> tuple[str, int | None]:
         """The line of a first differing bit, and its place, or None if one list ends there. A list that is too short or
@@ -139,9 +146,8 @@ class Difference:
         words = {"0": "0", "1": "1", lists.FILLER: "a filler"}
         return f"{what}: bit {place} is {words[found[place]]}, right is {words[right[place]]}", place
 
-    def of_blocks(
-        self, found: list[str], right: list[str], name: str, explain: typing.Callable[[int, int], list[str]]
-    ) -> list[str]:
+    def of_blocks(self, found: list[str], right: list[str], name: str,
+                  explain: typing.Callable[[int, int], list[str]]) -> list[str]:
         """The first difference of lists of all code blocks; `explain` has more words for a place of code block r."""
         if len(found) != len(right):
             return [f"{name} of {len(found)} code blocks, right is C = {len(right)} (5.2.2)"]
@@ -161,66 +167,44 @@ class Difference:
         return [f"{line}: {part} (5.1)"]
 
     def of_bits(self, found: list[str], right: list[str]) -> list[str]:
-        def explain(r: int, place: int) -> list[str]:
-            part = self.plan.kdash - self.plan.l
-            if place >= part:
-                return [f"it is parity bit p_{place - part} of the code block's CRC24B (5.1, 5.2.2)"]
-            return [f"it is bit b_{r * part + place} of the block with its CRC (5.2.2)"]
+        part = self.plan.kdash - self.plan.l
+        return self.of_blocks(found, right, "the bits", lambda r, place: [
+            f"it is parity bit p_{place - part} of the code block's CRC24B (5.1, 5.2.2)" if place >= part else
+            f"it is bit b_{r * part + place} of the block with its CRC (5.2.2)"])
 
-        return self.of_blocks(found, right, "the bits", explain)
-
-    def position(self, n: int) -> tuple[str, list[str]]:
-        """Words for bit n of d: its column, and the row that fixes it."""
+    def position(self, n: int) -> list[str]:
+        """Lines on bit n of d: its column, and the rows that fix it."""
         column, t = divmod(n + 2 * self.z, self.z)
-        if column < self.information:
-            kind = "a filler" if n + 2 * self.z >= self.plan.kdash else f"bit {n + 2 * self.z} of the code block"
-            return f"column j = {column}, bit t = {t} of Zc = {self.z}: {kind}", []
-        place = column - self.information
-        name = "the sum of rows 0 to 3" if place == 0 else f"row {place - 1 if place < 4 else place}"
-        rows = list(range(4)) if place == 0 else [place - 1 if place < 4 else place]
-        words = f"column j = {column}, bit t = {t} of Zc = {self.z}"
-        return f"{words}; {name} fixes it (5.3.2)", [self.row(row) for row in rows]
+        words, place = f"column j = {column}, bit t = {t} of Zc = {self.z}", column - self.information
+        if place < 0:
+            return [f"{words}: " + ("a filler" if n + 2 * self.z >= self.plan.kdash else f"bit {n + 2 * self.z} of the code block")]
+        rows = [*range(4)] if place == 0 else [place - 1 if place < 4 else place]
+        name = "the sum of rows 0 to 3" if place == 0 else f"row {rows[0]}"
+        return [f"{words}; {name} fixes it (5.3.2)", *map(self.row, rows)]
 
     def row(self, row: int) -> str:
         """The entries of a row with their shifts."""
-        index, entries = self.plan.set, self.tables[self.plan.graph][row]
-        shown = " ".join(f"{column}:{values[index] % self.z}" for column, values in entries[:SHOWN])
-        return f"row {row}, set {index}, column:P = {shown}" + (" .." if len(entries) > SHOWN else "")
+        index = self.plan.set
+        entries = (f"{column}:{values[index] % self.z}" for column, values in self.tables[self.plan.graph][row])
+        return f"row {row}, set {index}, column:P = {listed(entries, ' ')}"
 
     def of_d(self, found: list[str], right: list[str]) -> list[str]:
-        def explain(r: int, place: int) -> list[str]:
-            words, rows = self.position(place)
-            return [f"it is {words}", *rows]
-
-        return self.of_blocks(found, right, "d", explain)
-
-    def places(self, r: int) -> list[int]:
-        """The places of d from which the bits of e of a code block come, for one round."""
-        d, length, first = self.right.d[r], self.right.Ncb, self.right.k0
-        ring = [place % length for place in range(first, first + length)]
-        return [place for place in ring if d[place] != lists.FILLER]
+        return self.of_blocks(found, right, "d", lambda _r, place: ["it is " + self.position(place)[0], *self.position(place)[1:]])
 
     def from_d(self, r: int, j: int) -> str:
         """Words for the place from which e_j comes."""
-        places = self.places(r)
-        n = places[j % len(places)]
-        turn = f", in round {j // len(places) + 1}" if j >= len(places) else ""
-        if n == min(places) and j:
-            turn += ", the first place after the wrap"
-        words, _ = self.position(n)
-        return f"e_{j} is d_{n}{turn} (k0 = {self.right.k0}, Ncb = {self.right.Ncb}; 5.4.2.1): {words}"
+        n, turn, is_first = self.in_d(r, j)
+        said = (f", in round {turn}" if turn > 1 else "") + (", the first place after the wrap" if is_first and j else "")
+        return f"e_{j} is d_{n}{said} (k0 = {self.right.k0}, Ncb = {self.right.Ncb}; 5.4.2.1): {self.position(n)[0]}"
 
     def of_e(self, found: list[str], right: list[str]) -> list[str]:
         return self.of_blocks(found, right, "e", lambda r, place: [self.from_d(r, place)])
 
     def from_e(self, r: int, m: int) -> list[str]:
         """Words for the place of f of a code block."""
-        symbol = self.case.qm
-        columns = len(self.right.e[r]) // symbol
-        j, i = divmod(m, symbol)
-        e = i * columns + j
-        text = f"symbol {j}, bit {i} of Qm = {symbol}: f_{m} is e_{e} (E / Qm = {columns}; 5.4.2.2)"
-        return [text, self.from_d(r, e)]
+        symbol, e = self.case.qm, self.in_e(r, m)
+        text = f"symbol {m // symbol}, bit {m % symbol} of Qm = {symbol}: f_{m} is e_{e} "
+        return [f"{text}(E / Qm = {len(self.right.e[r]) // symbol}; 5.4.2.2)", self.from_d(r, e)]
 
     def of_f(self, found: list[str], right: list[str]) -> list[str]:
         return self.of_blocks(found, right, "f", self.from_e)
@@ -230,9 +214,7 @@ class Difference:
         more = displacement.lines(found, right, [])
         if place is None:
             return [line + " (5.5)", *more]
-        rest = place
-        for r, part in enumerate(self.right.f):
-            if rest < len(part):
-                return [line, f"it is f_{rest} of code block r = {r} (5.5)", *self.from_e(r, rest), *more]
-            rest -= len(part)
-        return [line, *more]
+        if place >= sum(map(len, self.right.f)):
+            return [line, *more]
+        r, m = self.in_f(place)
+        return [line, f"it is f_{m} of code block r = {r} (5.5)", *self.from_e(r, m), *more]

@@ -3,19 +3,20 @@
 from __future__ import annotations
 
 import dataclasses
+import functools
 import itertools
+import operator
 import typing
 
 from linksim_tools.common.graphs import GRAPHS, LARGEST
-from linksim_tools.conform.case import Row, Tables
-from linksim_tools.conform.clauses import Clauses, right
+from linksim_tools.conform.case import STEPS, Row, Tables, put
+from linksim_tools.conform.clauses import right
 from linksim_tools.conform.code import Encoder, rotated
+from linksim_tools.conform.encoder.families import mistake
+from linksim_tools.conform.encoder.judging import Trial
 from linksim_tools.conform.encoder.observations import Seen, groups_of
 from linksim_tools.conform.mistake import Mistake
-from linksim_tools.conform.steps import STEPS
-
-if typing.TYPE_CHECKING:
-    from linksim_tools.conform.encoder.judging import Trial
+from linksim_tools.conform.report import counted
 
 # How many rows are looked at, and how many values are named of which each fits.
 ROWS, VALUES = 4, 3
@@ -52,14 +53,18 @@ class Change:
         elif self.value is None:
             del entries[self.column]
         else:
-            values = entries.get(self.column, (0,) * 8)
-            entries[self.column] = (*values[:index], self.value, *values[index + 1 :])
+            entries[self.column] = put(entries.get(self.column, (0,) * 8), index, self.value)
         return sorted(entries.items())
 
 
 # Code blocks of a base graph and a set, and their changes.
 Key = typing.Tuple[int, int]
 Changes = typing.Dict[Key, typing.Tuple[Change, ...]]
+
+
+def turned(seen: Seen, column: int, value: int) -> int:
+    """A column as an entry with this value turns it."""
+    return rotated(seen.columns[column], value % seen.plan.z, seen.plan.z)
 
 
 class Group:
@@ -70,11 +75,6 @@ class Group:
         self.seen, self.agreeing = sorted(seen, key=lambda it: it.plan.z), sorted(agreeing, key=lambda it: -it.plan.z)
         self.all = [*self.seen, *self.agreeing]
         self.encoders = {z: Encoder(right(), tables, graph, z, index) for z in {it.plan.z for it in self.all}}
-
-    def turned(self, seen: Seen, row: int, column: int, by: int) -> int:
-        """A column as the right entry of another one turns it."""
-        z = seen.plan.z
-        return rotated(seen.columns[column], dict(self.rows[row])[by][self.index] % z, z)
 
     def gives(self, seen: Seen, row: int, added: int) -> bool:
         """Whether a row whose sum has this more gives the bits of a code block."""
@@ -96,41 +96,41 @@ class Group:
             more[column] = total
         return True
 
-    def values(self, row: int, column: int, has: bool) -> list[int]:
-        """The values of an entry that give all code blocks; `has` says whether the table has the entry."""
+    def values(self, row: int, column: int, known: int | None) -> list[int]:
+        """The values of an entry that give all code blocks; the table has this one, or none."""
         found = list(range(LARGEST[self.index]))
         for seen in self.all:
-            z, bits = seen.plan.z, seen.columns[column]
-            had = self.turned(seen, row, column, column) if has else 0
-            allowed = {shift for shift in {value % z for value in found} if self.gives(seen, row, rotated(bits, shift, z) ^ had)}
-            found = [value for value in found if value % z in allowed]
+            had = 0 if known is None else turned(seen, column, known)
+            allowed = {shift for shift in {value % seen.plan.z for value in found}
+                       if self.gives(seen, row, turned(seen, column, shift) ^ had)}
+            found = [value for value in found if value % seen.plan.z in allowed]
             if not found:
                 break
         return found
 
-    def fits_all(self, row: int, added: typing.Callable[[Seen], int]) -> bool:
-        """Whether a row with this more gives all code blocks."""
-        return all(self.gives(seen, row, added(seen)) for seen in self.all)
+    def fits_all(self, row: int, *entries: tuple[int, int]) -> bool:
+        """Whether a row with these columns and values more gives all code blocks."""
+        return all(self.gives(seen, row, functools.reduce(operator.xor, (turned(seen, *it) for it in entries)))
+                   for seen in self.all)
 
     def changes(self, row: int) -> typing.Iterator[Change]:
         """The changes of one entry of a row that give all code blocks."""
         columns = range(self.information + (4 if row >= 4 else 0))
-        entries = [column for column, _ in self.rows[row] if column in columns]
+        entries = {column: values[self.index] for column, values in self.rows[row] if column in columns}
         for column in columns:
-            known = dict(self.rows[row])[column][self.index] if column in entries else None
-            found = [it for it in self.values(row, column, known is not None) if it != known]
-            if known is not None and self.fits_all(row, lambda seen, j=column: self.turned(seen, row, j, j)):  # type: ignore[misc]
+            known = entries.get(column)
+            found = [it for it in self.values(row, column, known) if it != known]
+            if known is not None and self.fits_all(row, (column, known)):
                 yield Change(row, column, None, known)
             if found:
                 yield Change(row, column, found[0], known, tuple(found[1:]))
-            for other in columns if known is not None else ():
-                if other not in entries and self.fits_all(row, lambda seen, j=column, to=other: (  # type: ignore[misc]
-                        self.turned(seen, row, j, j) ^ self.turned(seen, row, to, j))):
+            for other in columns:
+                if known is not None and other not in entries and self.fits_all(row, (column, known), (other, known)):
                     yield Change(row, column, known, known, moved=other)
 
     def lost(self, row: int) -> bool:
         """Whether a row of the extension gives zeros."""
-        return row >= 4 and self.fits_all(row, lambda seen: seen.columns[self.information + row])
+        return row >= 4 and self.fits_all(row, (self.information + row, 0))
 
     def is_set(self, other: int) -> bool:
         """Whether another set's values give all bits that are seen."""
@@ -150,12 +150,10 @@ class Group:
     def found(self) -> list[tuple[Change, ...]]:
         """The changes that give all code blocks of the group: one of a row from 0 to 3, or one of each wrong row."""
         rows = self.bad_rows()
-        if not rows or len(rows) > ROWS:
-            return []
-        by_row = [sorted(self.changes(row), key=lambda it: (len(it.others), it.right is None)) for row in rows]
+        by_row = [[*self.changes(row)] for row in rows] if len(rows) <= ROWS else []
         if rows == [0, 1, 2, 3]:
-            return [(it,) for it in sorted(itertools.chain(*by_row), key=lambda it: (len(it.others), it.right is None))]
-        return [tuple(it) for it in zip(*by_row)] if all(by_row) else []
+            by_row = [[*itertools.chain(*by_row)]]
+        return [*zip(*(sorted(changes, key=lambda it: (len(it.others), it.right is None)) for changes in by_row))]
 
 
 AGAIN = "read the table again, and compare its fingerprint with that of `tools/table fingerprint`"
@@ -163,9 +161,8 @@ AGAIN = "read the table again, and compare its fingerprint with that of `tools/t
 
 def mistake_of(name: str, graphs: typing.Iterable[int], wrong: str, rows: Changed, change: str = AGAIN) -> Mistake:
     """A mistake of the table: `rows` gives its rows for a base graph and a set index."""
-    clause = ", ".join(GRAPHS[graph].table for graph in sorted(set(graphs)))
-    made = type("Made", (Clauses,), {"read": lambda _self, *given: rows(*given)})
-    return Mistake(name, "ldpc", (), clause, wrong, change, made)
+    made = mistake(name, "ldpc", wrong, change, {"read": lambda _self, *given: rows(*given)})
+    return dataclasses.replace(made, clause=", ".join(GRAPHS[graph].table for graph in sorted(set(graphs))))
 
 
 def entry_mistake(tables: Tables, changes: Changes, count: int) -> Mistake:
@@ -178,36 +175,39 @@ def entry_mistake(tables: Tables, changes: Changes, count: int) -> Mistake:
 
     sets_of: dict[tuple[int, int, int, str], list[int]] = {}
     rows_of: dict[tuple[int, int], str] = {}
-    for (graph, index), it in ((key, it) for key, group in sorted(changes.items()) for it in group):
-        sets_of.setdefault((graph, it.row, it.column, it.does), []).append(index)
-        entries = " ".join(f"{column}:{values[index]}" for column, values in tables[graph][it.row])
-        rows_of[graph, it.row] = f"row {it.row} of base graph {graph} has, as column:V of set {index}, {entries}"
+    for (graph, index), group in sorted(changes.items()):
+        for it in group:
+            sets_of.setdefault((graph, it.row, it.column, it.does), []).append(index)
+            entries = " ".join(f"{column}:{values[index]}" for column, values in tables[graph][it.row])
+            rows_of[graph, it.row] = f"row {it.row} of base graph {graph} has, as column:V of set {index}, {entries}"
     said = []
     for (graph, row, column, does), sets in sets_of.items():
         names = "all sets" if len(sets) == 8 else f"set{'s' if len(sets) > 1 else ''} " + ", ".join(map(str, sets))
         said.append(f"table entry graph {graph}, row {row}, column {column}, {names} {does}")
-    blocks = f"{count} code blocks" if count > 1 else "1 code block"
-    wrong = "; ".join(said) + f" ({blocks}, all others agree)"
+    wrong = f"{'; '.join(said)} ({counted(count, 'code block')}, all others agree)"
     return mistake_of("table-entry", (graph for graph, _ in changes), wrong, rows, "; ".join(rows_of.values()))
 
 
 def in_set(rows: list[Row], index: int, other: int) -> list[Row]:
     """Rows that have another set's values in a set."""
-    return [[(column, (*values[:index], values[other], *values[index + 1 :])) for column, values in row] for row in rows]
+    return [[(column, put(values, index, values[other])) for column, values in row] for row in rows]
+
+
+def bad_rows(groups: dict[Key, Group]) -> dict[int, list[int]]:
+    """The wrong rows of each base graph, over all sets."""
+    return {graph: sorted({row for (it, _), group in groups.items() if it == graph for row in group.bad_rows()})
+            for graph in sorted({graph for graph, _ in groups})}
 
 
 def lost_rows(groups: dict[Key, Group]) -> typing.Iterator[Mistake]:
     """The rows that give zeros in all sets of a base graph."""
-    for graph in sorted({graph for graph, _ in groups}):
+    for graph, bad in bad_rows(groups).items():
         those = [group for (it, _), group in groups.items() if it == graph]
-        bad = sorted({row for group in those for row in group.bad_rows()})
-        if bad and len(bad) <= ROWS and all(group.lost(row) for group in those for row in bad):
+        if 0 < len(bad) <= ROWS and all(group.lost(row) for group in those for row in bad):
             names = " and ".join(f"row {row}" for row in bad)
             wrong = f"{names} of base graph {graph} {'gives' if len(bad) == 1 else 'give'} zeros"
-            def rows(there: list[Row], it: int, _index: int, graph: int = graph, bad: list[int] = bad) -> list[Row]:
-                return [[] if it == graph and row in bad else entries for row, entries in enumerate(there)]
-
-            yield mistake_of("table-row-lost", [graph], wrong, rows)
+            yield mistake_of("table-row-lost", [graph], wrong, lambda rows, it, _index, at=(graph, bad): (  # type: ignore[misc]
+                [[] if it == at[0] and row in at[1] else entries for row, entries in enumerate(rows)]))
 
 
 def read_sets(groups: dict[Key, Group]) -> typing.Iterator[Mistake]:
@@ -247,12 +247,11 @@ def joined(by_group: dict[Key, list[tuple[Change, ...]]]) -> typing.Iterator[Cha
 def exchanged(groups: dict[Key, Group]) -> typing.Iterator[Mistake]:
     """Two rows of a base graph that may be exchanged, with their entries of parity columns or without. They are the two
     that are wrong, or two of rows 0 to 3."""
-    for graph in sorted({graph for graph, _ in groups}):
+    for graph, rows in bad_rows(groups).items():
         first = GRAPHS[graph].information
-        rows = sorted({row for (it, _), group in groups.items() if it == graph for row in group.bad_rows()})
         if rows[:1] == [0]:
-            for pair, own_columns in itertools.product(itertools.combinations(range(4), 2), (first, first + 1, first + 4)):
-                yield rows_mistake(graph, *pair, own_columns)
+            for (one, two), more in itertools.product(itertools.combinations(range(4), 2), (0, 1, 4)):
+                yield rows_mistake(graph, one, two, first + more)
         elif len(rows) == 2:
             yield rows_mistake(graph, rows[0], rows[1], first + 4)
 

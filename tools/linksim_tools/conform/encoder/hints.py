@@ -3,20 +3,21 @@
 from __future__ import annotations
 
 import functools
+import itertools
 import math
 import typing
 
 from linksim_tools.conform.clauses import Impossible
-from linksim_tools.conform.encoder import former, displacement
-from linksim_tools.conform.encoder.judging import NOTHING, Made
+from linksim_tools.conform.conditions import NUMBERS
+from linksim_tools.conform.encoder import displacement
+from linksim_tools.conform.encoder.judging import NOTHING, Made, Trial, Trials
 from linksim_tools.conform.encoder.observations import selected_bits
-
-if typing.TYPE_CHECKING:
-    from linksim_tools.conform.encoder.judging import Trial, Trials
+from linksim_tools.conform.encoder.points import Facts
+from linksim_tools.conform.encoder.polynomials import of_answer
 
 # How many numbers are told that stand for others, in how many of a hundred cases a shift must be the same, and the least number of
 # bits of a word of which several may be missing.
-NUMBERS, MOST, LEAST_WORD = 4, 50, 16
+OTHERS, MOST, LEAST_WORD = 4, 50, 16
 NAMES = {"b": "B", "graph": "the base graph", "c": "C", "l": "L", "kdash": "K'", "kb": "Kb", "z": "Zc", "set": "the set index",
          "k": "K", "n": "N"}
 # The lists of bits that each step answers, by their names.
@@ -27,15 +28,15 @@ LISTS = {"crc": ("attached", "the block with its CRC"), "codecrc": ("bits", "the
 def exchanged(name: str, pairs: typing.Iterable[tuple[int, int]]) -> list[str]:
     """A line if the same number always stands for another one."""
     found = sorted(set(pairs))
-    if not found or len(found) > NUMBERS or len({right for right, _ in found}) < len(found):
+    if not found or len(found) > OTHERS or len({right for right, _ in found}) < len(found):
         return []
     return [f"{name} is " + ", ".join(f"{answered} in place of {right}" for right, answered in found)]
 
 
 def of_graph(trials: list[Trial]) -> list[str]:
     """The base graph."""
-    there = [trial for trial in trials if trial.answer.graph is not None]
-    return exchanged(NAMES["graph"], [(trial.made("graph", NOTHING), trial.answer.graph or 0) for trial in there])
+    there = [(trial, trial.answer.graph) for trial in trials]
+    return exchanged(NAMES["graph"], [(trial.made("graph", NOTHING), it) for trial, it in there if it is not None])
 
 
 def of_plan(trials: list[Trial]) -> list[str]:
@@ -82,27 +83,28 @@ def of_bits(step: str, trial: Trial, old: list[str]) -> typing.Iterator[tuple[st
     """Words for the bits of a trial, and their shift, for each of its lists that says something; `old` was answered to the case
     before."""
     for name, answered, right in lists_of(step, trial):
-        moved = former.order(answered, right) if len(right) > 1 else ""
+        moved = displacement.order(answered, right) if len(right) > 1 else ""
         r = next((r for r, (one, two) in enumerate(zip(answered, right)) if one != two), None)
         if moved:
             yield f"{name}: the parts of code blocks stand in another order", moved
         if moved or r is None:
             continue
-        others = [(f"code block {r}", it) for r, it in enumerate(right)] if len(right) > 1 else []
-        shift = None if displacement.is_flipped(answered[r], right[r]) else displacement.shift_of(answered[r], right[r])
-        before = [("the case before", (old[r : r + 1] or [""])[0])] + [("the code block before", answered[r - 1])] * (r > 0)
-        words = former.words_of(before, answered[r], right[r])
+        before = [("the case before", "".join(old[r : r + 1])), *([("the code block before", answered[r - 1])] if r else [])]
+        words, shift = displacement.former_words(before, answered[r], right[r]), displacement.shift_of(answered[r], right[r])
         if shift and not words:
             yield f"{name} {shift.missing}", shift
-        elif words or displacement.other_words(answered[r], right[r], others):
-            yield f"{name}: {words or displacement.other_words(answered[r], right[r], others)}", None
+            continue
+        others = [(f"code block {r}", it) for r, it in enumerate(right)] if len(right) > 1 else []
+        words = words or displacement.other_words(answered[r], right[r], others)
+        if words:
+            yield f"{name}: {words}", None
 
 
 def of_shifts(step: str, trials: list[Trial], all_trials: Trials) -> list[str]:
     """What most cases have of shifted or former bits."""
     found: dict[str, list[displacement.Shift | str | None]] = {}
     for trial in trials:
-        before = former.before(all_trials, trial)
+        before = all_trials.by_name.get(trial.before.id) if trial.before else None
         for words, moved in of_bits(step, trial, parts_of(getattr(before.answer, LISTS[step][0])) if before else []):
             found.setdefault(words, []).append(moved)
         trial.forget()
@@ -140,35 +142,29 @@ def of_sequence(step: str, trials: list[Trial]) -> list[str]:
 def of_parity(step: str, trials: list[Trial]) -> list[str]:
     """A line if parity bits of a CRC never change."""
     parities: dict[int, list[str]] = {}
-    for trial in trials:
-        if step == "crc" and trial.answer.attached:
-            parity = trial.answer.attached[trial.right.plan.a :]
-            parities.setdefault(len(parity), []).append(parity)
-        for bits in trial.answer.bits or [] if step == "codecrc" and trial.right.plan.l else []:
-            parities.setdefault(24, []).append(bits[-24:])
+    for _, (_, parity) in itertools.chain.from_iterable(of_answer(step, trial) for trial in trials):
+        parities.setdefault(len(parity), []).append(parity)
     found = []
     for length, listed in parities.items():
-        fixed = {at: listed[0][at] for at in range(length) if len({it[at : at + 1] for it in listed}) == 1}
-        if len(listed) >= 6 and fixed and len(set(map(len, listed))) == 1:
-            said = ", ".join(f"p_{at} = {bit}" for at, bit in [*fixed.items()][:8]) + (", .." if len(fixed) > 8 else "")
+        fixed = [f"p_{at} = {listed[0][at]}" for at in range(length) if len({it[at] for it in listed}) == 1]
+        if len(listed) >= 6 and fixed:
+            said = ", ".join(fixed[:8]) + (", .." if len(fixed) > 8 else "")
             found.append(f"parity bits of the CRC of {length} bits that never change: {said}")
     return found
 
 
 def of_counts(step: str, trials: list[Trial]) -> list[str]:
     """A line if the number of bits that are missing or too many is a number of the case modulo a word."""
-    found = differing(step, trials)
-    counts = [(trial.right.plan, trial.case.g, len(two) - len(one)) for trial, one, two in found if len(one) != len(two)]
-    if len(counts) < 3:
+    found = [(Facts(trial.case), len(two) - len(one)) for trial, one, two in differing(step, trials) if len(one) != len(two)]
+    if len(found) < 3:
         return []
-    kind = "missing" if counts[0][2] > 0 else "too many"
-    if len({it for *_, it in counts}) == 1:
-        return [f"{displacement.count(abs(counts[0][2]))} {kind} in each list that differs"]
-    for width in (8, 16, 32, 64):
-        for name, numbers in (("B", [plan.b for plan, *_ in counts]), ("K'", [plan.kdash for plan, *_ in counts]),
-                              ("G", [g for _, g, _ in counts])):
-            if all(abs(by) == it % width and by * counts[0][2] > 0 for it, (_, _, by) in zip(numbers, counts)):
-                return [f"mod({name}, {width}) bits are {kind} in each list that differs"]
+    first = found[0][1]
+    kind = "missing" if first > 0 else "too many"
+    if len({by for _, by in found}) == 1:
+        return [f"{displacement.count(abs(first))} {kind} in each list that differs"]
+    for width, name in itertools.product((8, 16, 32, 64), ("B", "K'", "G")):
+        if all(abs(by) == NUMBERS[name](facts) % width and by * first > 0 for facts, by in found):
+            return [f"mod({name}, {width}) bits are {kind} in each list that differs"]
     return []
 
 
@@ -178,8 +174,7 @@ def in_words(shifts: list[displacement.Shift], count: int) -> list[str]:
     width = functools.reduce(math.gcd, by, 0)
     if 100 * len(by) < MOST * count or width < LEAST_WORD or width & (width - 1) or min(by) < 0 < max(by):
         return []
-    kind = "missing" if by[0] > 0 else "too many"
-    return [f"a multiple of {width} bits is {kind} (in {len(by)} of {count} that fail)"]
+    return [f"a multiple of {width} bits is {'missing' if by[0] > 0 else 'too many'} (in {len(by)} of {count} that fail)"]
 
 
 def lines(step: str, trials: list[Trial], all_trials: Trials) -> list[str]:

@@ -6,18 +6,15 @@ import dataclasses
 import functools
 import typing
 
-from linksim_tools.conform.case import Answer, Plan, size
+from linksim_tools.conform.case import STEPS, STEP_OF, Answer, size
 from linksim_tools.conform.chain import INPUTS, Chain
 from linksim_tools.conform.clauses import Impossible
 from linksim_tools.conform.encoder.mistakes import clauses_of
-from linksim_tools.conform.steps import STEP_OF, STEPS
-
-if typing.TYPE_CHECKING:
-    from linksim_tools.conform.mistake import Mistake
-    from linksim_tools.conform.encoder.suite import Suite
+from linksim_tools.conform.encoder.suite import Suite
+from linksim_tools.conform.mistake import Mistake
 
 # Some mistakes together.
-Mistakes = typing.FrozenSet["Mistake"]
+Mistakes = typing.FrozenSet[Mistake]
 NOTHING: Mistakes = frozenset()
 
 # With these numbers of a plan nothing else of segmentation matters to later steps.
@@ -51,6 +48,10 @@ class Trial:
         self.spans: dict[str, frozenset[str]] = {}
         self.sound: dict[str, bool] = {}
 
+    def answered(self, fields: typing.Iterable[str]) -> list[str]:
+        """Those of these names that were answered."""
+        return [field for field in fields if getattr(self.answer, field) is not None]
+
     def is_answered(self, field: str) -> bool:
         """Whether all that later steps take of a name was answered."""
         if field == "plan":
@@ -72,9 +73,7 @@ class Trial:
         if field not in self.sound:
             self.sound[field] = all(
                 (getattr(self.answer, it) is None or same(it, getattr(self.answer, it), getattr(self.right, it)))
-                and (self.is_answered(it) or self.has_right_inputs(it))
-                for it in INPUTS[field]
-            )
+                and (self.is_answered(it) or self.has_right_inputs(it)) for it in INPUTS[field])
         return self.sound[field]
 
     def made(self, field: str, wrong: Mistakes) -> typing.Any:
@@ -83,16 +82,9 @@ class Trial:
         if not used and self.has_right_inputs(field):
             return getattr(self.right, field)
         key = field, used
-        if key not in self.kept:
-            found: typing.Any
-            try:
-                found = getattr(Made(self, used), "make_" + field)()
-            except (Impossible, ArithmeticError, LookupError, ValueError, TypeError) as error:
-                found = Impossible(str(error))
-            if length_of(found) > KEPT:
-                return found
+        found = self.kept[key] if key in self.kept else Made(self, used).attempt(field)
+        if length_of(found) <= KEPT:
             self.kept[key] = found
-        found = self.kept[key]
         if isinstance(found, Impossible):
             raise found
         return found
@@ -100,10 +92,7 @@ class Trial:
     def gives(self, fields: typing.Iterable[str], wrong: Mistakes) -> bool:
         """Whether these mistakes give all that was answered under these names."""
         try:
-            if all(
-                self.agrees(field, getattr(self.answer, field), self.made(field, wrong))
-                for field in fields if getattr(self.answer, field) is not None
-            ):
+            if all(self.agrees(field, getattr(self.answer, field), self.made(field, wrong)) for field in self.answered(fields)):
                 return True
         except Impossible:
             pass
@@ -127,13 +116,12 @@ class Trial:
         return same(field, found, value)
 
     def forget(self) -> None:
-        """Forgets what was made."""
         self.kept.clear()
 
     def state(self, step: str, base: Mistakes = NOTHING) -> str:
         """How the case does in a step, these mistakes known: `pass` or `fail`. It is `none` if the step was not
         answered, and `unjudged` if what was answered before cannot be its input."""
-        fields = [field for field in STEPS[step][1] if getattr(self.answer, field) is not None]
+        fields = self.answered(STEPS[step][1])
         if not fields:
             return "none"
         if all(same(field, getattr(self.answer, field), getattr(self.right, field)) for field in fields):
@@ -158,23 +146,13 @@ class Made(Chain):
         return self.trial.made(name, self.wrong)
 
 
-def fillers_as_zeros(plan: Plan, d: str) -> str | None:
-    """d with its fillers, if zeros stand at the places of all of them; else None."""
-    first, last = plan.kdash - 2 * plan.z, plan.k - 2 * plan.z
-    if first >= last or len(d) != plan.n or d[first:last].strip("0"):
-        return None
-    return d[:first] + "-" * (last - first) + d[last:]
-
-
 def with_fillers(trial: Trial) -> Answer | None:
-    """The answer with the fillers of d, if zeros stand in their places; None if it has none such."""
-    words = trial.answer.d
-    if words is None or len(words) != trial.right.plan.c:
+    """The answer with the fillers of d, if zeros stand at the places of all of them; None if it has none such."""
+    plan, words = trial.right.plan, trial.answer.d
+    first, last = plan.kdash - 2 * plan.z, plan.k - 2 * plan.z
+    if words is None or len(words) != plan.c or first >= last or any(len(d) != plan.n or d[first:last].strip("0") for d in words):
         return None
-    found = [fillers_as_zeros(trial.right.plan, d) for d in words]
-    if any(it is None for it in found):
-        return None
-    return dataclasses.replace(trial.answer, d=found)
+    return dataclasses.replace(trial.answer, d=[d[:first] + "-" * (last - first) + d[last:] for d in words])
 
 
 def with_bits(trial: Trial) -> Answer | None:
@@ -201,30 +179,29 @@ class Trials:
         self.zeros = self.take_zeros()
         self.from_d = self.take_bits()
 
+    def changed(self, change: typing.Callable[[Trial], Answer | None]) -> dict[str, Trial]:
+        """The trials of which another answer is taken."""
+        found = {name: change(trial) for name, trial in self.by_name.items()}
+        return {name: Trial(self.suite, name, answer) for name, answer in found.items() if answer is not None}
+
     def take_bits(self) -> list[str]:
         """Takes the bits of code blocks from d where they were not answered; the cases in which it does."""
-        found = {name: with_bits(trial) for name, trial in self.by_name.items()}
-        taken = {name: answer for name, answer in found.items() if answer is not None}
-        self.by_name.update({name: Trial(self.suite, name, answer) for name, answer in taken.items()})
+        taken = self.changed(with_bits)
+        self.by_name.update(taken)
         return list(taken)
 
     def take_zeros(self) -> list[str]:
         """Takes zeros in d for fillers, if later answers do not say that they are sent; the cases that have such."""
-        filled = {name: with_fillers(trial) for name, trial in self.by_name.items()}
-        kept = {name: answer for name, answer in filled.items() if answer is not None}
-        if any(self.are_sent(name, answer) for name, answer in kept.items()):
+        filled = self.changed(with_fillers)
+        if any(self.are_sent(name, trial) for name, trial in filled.items()):
             return []
-        for name, answer in kept.items():
-            self.by_name[name] = Trial(self.suite, name, answer)
-        return list(kept)
+        self.by_name.update(filled)
+        return list(filled)
 
-    def are_sent(self, name: str, answer: Answer) -> bool:
+    def are_sent(self, name: str, fillers: Trial) -> bool:
         """Whether the next answer after d is made of the zeros, and not of fillers."""
-        zeros, fillers = self.by_name[name], Trial(self.suite, name, answer)
-        field = next((it for it in ("e", "f", "sent") if getattr(answer, it) is not None), None)
-        if field is None or fillers.gives([field], NOTHING):
-            return False
-        return zeros.gives([field], NOTHING)
+        fields = fillers.answered(("e", "f", "sent"))[:1]
+        return bool(fields) and not fillers.gives(fields, NOTHING) and self.by_name[name].gives(fields, NOTHING)
 
     def failing(self, step: str, base: Mistakes) -> list[str]:
         """The cases that fail in a step."""
@@ -241,8 +218,7 @@ class Trials:
 
     def is_hidden(self, trial: Trial, step: str, base: Mistakes) -> bool:
         """Whether an earlier step that a case does not answer fails in others by an unknown fault: this may be the same."""
-        fields = [field for field in STEPS[step][1] if getattr(trial.answer, field) is not None]
-        earlier = frozenset().union(*map(trial.span, fields)) - {step}
+        earlier = frozenset().union(*map(trial.span, trial.answered(STEPS[step][1]))) - {step}
         return any("fail" in self.states[it].values() and not any(it in known.steps for known in base) for it in earlier)
 
     @functools.cached_property

@@ -1,4 +1,5 @@
-"""What is seen of the codewords of a case: which bits of each column were answered, and which of these differ."""
+"""What is seen of the codewords of a case: which bits of each column were answered, and which of these differ. And which rows of a
+base graph and which bits of a column are wrong, over all cases."""
 
 from __future__ import annotations
 
@@ -7,11 +8,16 @@ import typing
 
 from linksim_tools.common.graphs import GRAPHS
 from linksim_tools.conform import bits as lists
-from linksim_tools.conform.case import Plan
+from linksim_tools.conform.case import STEPS, Plan, Tables
 from linksim_tools.conform.clauses import Impossible
-from linksim_tools.conform.code import columns_of
+from linksim_tools.conform.code import columns_of, rotated
 from linksim_tools.conform.encoder.judging import NOTHING, Made, Trial
 
+
+# How many code blocks are looked at, of how many bits, how many rows are named, and how many shifts.
+MOST, BITS, NAMED, SHIFTS = 160, 1 << 18, 8, 5
+# In fewer bits a row with two wrong shifts may look like a row with another one.
+FEW_BITS = 16
 
 # How many code blocks of each size are looked at. A size tells a value by its residue alone, so all sizes of a set are wanted.
 EACH = 3
@@ -32,36 +38,26 @@ class Seen:
         return GRAPHS[self.plan.graph].information
 
     @property
+    def whole(self) -> int:
+        """A column whose bits are all known."""
+        return (1 << self.plan.z) - 1
+
+    @property
     def bad(self) -> list[int]:
         """The columns with a wrong bit."""
         return [column for column, it in enumerate(self.wrong) if it]
 
 
-def spread_back(f: str, symbol: int) -> str:
-    """e of f: the interleaver's inverse (5.4.2.2)."""
-    return "".join(f[row::symbol] for row in range(symbol))
-
-
 def selected_bits(step: str, trial: Trial, made: Made) -> list[str] | None:
     """e of each code block, of what was answered in a step; None if its lengths are wrong."""
-    answer, symbol, lengths = trial.answer, trial.case.qm, made.of("E")
-    if step == "selection":
-        found = answer.e
-    elif step == "interleaving":
-        found = [spread_back(f, symbol) for f in answer.f or []]
-    else:
-        rest, found = answer.sent or "", []
-        for length in lengths:
-            found.append(spread_back(rest[:length], symbol))
-            rest = rest[length:]
-        if rest:
-            return None
+    answer, lengths, found, qm = trial.answer, made.of("E"), trial.answer.e, trial.case.qm
+    if step != "selection":
+        f = answer.f if step == "interleaving" else lists.parted(answer.sent or "", lengths)
+        # The interleaver's inverse (5.4.2.2).
+        found = ["".join(it[row::qm] for row in range(qm)) for it in f or []]
+    if step == "concatenation" and len(answer.sent or "") > sum(lengths):
+        return None
     return found if found and [len(it) for it in found] == lengths else None
-
-
-def word_of(bits: str, d: str, plan: Plan) -> str:
-    """All columns of a codeword as text, whose fillers are zeros."""
-    return (bits + "0" * plan.fillers)[: 2 * plan.z] + d.replace(lists.FILLER, "0")
 
 
 # The marks of d as zeros and ones: those that are answered, and those that are wrong.
@@ -73,18 +69,12 @@ def masks(text: str, plan: Plan, digits: typing.Mapping[int, int | None]) -> lis
     return columns_of("0" * 2 * plan.z + text.translate(digits), plan.z)
 
 
-def marked(d: str, e: str, first: int, length: int) -> str:
-    """d with `=` where e has the same bit in the first round, `!` where another, and `?` where none was answered."""
+def marked(d: str, answered: str, places: typing.Iterable[int]) -> str:
+    """d with `=` where the same bit was answered at these places in turn, `!` where another, and `?` where none was."""
     marks = ["?"] * len(d)
-    places = [place for place in (*range(first, length), *range(min(first, length))) if d[place] != lists.FILLER]
-    for place, bit in zip(places, e):
+    for place, bit in zip(places, answered):
         marks[place] = "=" if bit == d[place] else "!"
     return "".join(marks)
-
-
-def marked_all(d: str, answered: str) -> str:
-    """The same of a whole d that was answered."""
-    return "".join("=" if one == two else "!" for one, two in zip(d, answered))
 
 
 def seen_in(step: str, trial: Trial) -> typing.Iterator[Seen]:
@@ -93,19 +83,18 @@ def seen_in(step: str, trial: Trial) -> typing.Iterator[Seen]:
     try:
         plan, words, bits = made.of("plan"), made.made("d"), made.of("bits")
         if step == "ldpc":
-            marks = [marked_all(d, it) for d, it in zip(words, trial.answer.d or []) if len(d) == len(it)]
+            marks = [marked(d, it, range(len(d))) for d, it in zip(words, trial.answer.d or []) if len(d) == len(it)]
         else:
             parts = selected_bits(step, trial, made)
             first, length = made.of("k0"), made.of("Ncb")
             if not 0 <= first < length <= min(map(len, words)):
                 return
-            marks = [marked(d, e, first, length) for d, e in zip(words, parts or [])]
+            ring = [*range(first, length), *range(first)]
+            marks = [marked(d, e, (at for at in ring if d[at] != lists.FILLER)) for d, e in zip(words, parts or [])]
     except Impossible:
         return
-    if len(marks) != len(words):
-        return
-    for text, d, info in zip(marks, words, bits):
-        word = word_of(info, d, plan)
+    for text, d, info in zip(marks, words, bits) if len(marks) == len(words) else ():
+        word = (info + "0" * plan.fillers)[: 2 * plan.z] + d.replace(lists.FILLER, "0")
         if len(word) == GRAPHS[plan.graph].columns * plan.z:
             yield Seen(plan, columns_of(word, plan.z), masks(text, plan, KNOWN), masks(text, plan, WRONG))
 
@@ -133,3 +122,108 @@ def groups_of(step: str, failing: list[Trial], passing: list[Trial]) -> dict[tup
                     kept.append(seen)
             trial.forget()
     return {key: groups for key, groups in found.items() if groups[0]}
+
+
+def named(numbers: list[int], last: int) -> str:
+    """Rows in words: each, all from one on, all of a range."""
+    first, end = numbers[0], numbers[-1]
+    if len(numbers) > 2 and numbers == [*range(first, end + 1)]:
+        return f"rows from {first} on" if end == last else f"rows {first} to {end}"
+    said = ", ".join(map(str, numbers))
+    return "" if len(numbers) > NAMED else f"rows {said}" if len(numbers) > 1 else f"row {said}"
+
+
+def of_bits(seen: list[Seen]) -> str:
+    """Words for the bits of columns that are wrong."""
+    wrong = [(t, it.plan.z) for it in seen for column in it.bad
+             for t, bit in enumerate(f"{it.wrong[column]:0{it.plan.z}b}") if bit == "1"]
+    if not wrong:
+        return ""
+    if all(t == z - 1 for t, z in wrong):
+        return "only the last bit t = Zc - 1 of columns is wrong"
+    if all(t == 0 for t, _ in wrong):
+        return "only the first bit t = 0 of columns is wrong"
+    least = min(t for t, _ in wrong)
+    if least >= 32 and any(it.plan.z > 2 * least or it.plan.z - least > 16 for it in seen):
+        return f"only bits from t = {least} on of columns are wrong"
+    for width in (8, 16, 32, 64):
+        if 2 * sum(z >= width for _, z in wrong) > len(wrong) and all(t >= z // width * width for t, z in wrong):
+            return f"only bits after the last multiple of {width} of columns are wrong"
+    return ""
+
+
+def of_rows(seen: list[Seen]) -> typing.Iterator[str]:
+    """Words for the rows that are wrong, by base graph, if no other column is, and whether none of them is right elsewhere."""
+    for graph in GRAPHS:
+        those = [it for it in seen if it.plan.graph == graph]
+        bad = {column - it.information for it in those for column in it.bad}
+        good = {column - it.information for it in those for column, known in enumerate(it.known)
+                if known == it.whole and not it.wrong[column] and it.columns[column]}
+        words = named(sorted(bad), GRAPHS[graph].rows - 1) if bad and min(bad) >= 4 else ""
+        if words:
+            always = "" if bad & good else ", and always"
+            yield f"only {words} of base graph {graph} {'are' if words.startswith('rows') else 'is'} wrong{always}"
+
+
+def turn_of(found: int, right: int, z: int) -> int:
+    """By how much a right column is rotated to the right to give another one, or -1."""
+    return next((shift for shift in range(z) if rotated(right, z - shift, z) == found), -1) if right and found else -1
+
+
+def of_columns(seen: list[Seen]) -> typing.Iterator[str]:
+    """Words for wrong columns that are other right columns, or that are rotated by as much in all code blocks."""
+    places: dict[tuple[int, int], set[int]] = {}
+    turns: set[int] = set()
+    for it in seen:
+        for column in (column for column in it.bad if it.known[column] == it.whole and column >= 2):
+            found, key = it.columns[column] ^ it.wrong[column], (it.plan.graph, column)
+            turns.add(turn_of(found, it.columns[column], it.plan.z))
+            same = {other for other, right in enumerate(it.columns) if right == found and right}
+            places[key] = places.get(key, same) & same
+    moved = {key: min(others) for key, others in places.items() if others}
+    if places and len(moved) == len(places):
+        steps = {other - column for (_, column), other in moved.items()}
+        said = [f"column {column} of base graph {graph} is the right column {it}" for (graph, column), it in moved.items()]
+        each = f"each wrong column j of the codeword is the right column j {min(steps):+d}"
+        yield each if len(steps) == 1 else "; ".join(said[:SHIFTS])
+    elif len(turns) == 1 and -1 not in turns:
+        yield f"each wrong column is the right one rotated by {min(turns)} to the right"
+
+
+def of_shifts(seen: list[Seen], tables: Tables) -> typing.Iterator[str]:
+    """The shifts that were used, where one entry of a row of the extension has another one, with what was answered as its input."""
+    found: dict[tuple[int, int, int], set[int]] = {}
+    for it in seen:
+        z, index = it.plan.z, it.plan.set
+        columns = [one ^ wrong for one, wrong in zip(it.columns, it.wrong)]
+        for own, entries in enumerate(tables[it.plan.graph][4:], it.information + 4):
+            inputs = [(columns[other], values[index]) for other, values in entries if other != own]
+            rest = columns[own]
+            for column, value in inputs:
+                rest ^= rotated(column, value % z, z)
+            needed = (own, *(other for other, _ in entries if other > 1))
+            if not rest or z < FEW_BITS or any(it.known[other] != it.whole for other in needed):
+                continue
+            fitting = {(value, used) for column, value in inputs for used in range(z)
+                       if rest == rotated(column, value % z, z) ^ rotated(column, used, z)}
+            if len(fitting) == 1:
+                (value, used), = fitting
+                found.setdefault((value, z, value % z), set()).add(used)
+    if found and all(len(used) == 1 for used in found.values()):
+        said = [f"V = {value}, Zc = {z}: P = {right}, used is {min(used)}" for (value, z, right), used in sorted(found.items())]
+        yield "shifts that were used: " + "; ".join(said[:SHIFTS]) + ("; .." if len(said) > SHIFTS else "")
+
+
+def lines(step: str, failing: list[Trial], passing: list[Trial]) -> list[str]:
+    """What is told of rows and of bits of columns."""
+    if not any("ldpc" in failing[0].span(field) for field in STEPS[step][1]):
+        return []
+    bad: list[Seen] = []
+    good: list[Seen] = []
+    for trials, kept in ((failing, bad), (passing, good)):
+        for trial in trials:
+            if len(kept) < MOST and trial.right.plan.c * trial.right.plan.n < BITS:
+                kept += [it for it in seen_in(step, trial) if it.bad or trials is passing]
+                trial.forget()
+    told = [*of_rows([*bad, *good]), of_bits(bad), *of_columns(bad), *of_shifts(bad, failing[0].tables.tables)]
+    return [words for words in told if words]

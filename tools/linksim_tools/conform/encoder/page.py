@@ -7,11 +7,9 @@ import typing
 from html import escape
 
 from linksim_tools.conform import page
+from linksim_tools.conform.case import Values
 from linksim_tools.conform.encoder import report as reporting
-
-if typing.TYPE_CHECKING:
-    from linksim_tools.conform.case import Values
-    from linksim_tools.conform.encoder.difference import Spot
+from linksim_tools.conform.encoder.difference import Spot
 
 TITLE = "Conformance of an encoder with TS 38.212"
 # A picture is so wide; parts of it that are narrower have no name in them.
@@ -48,6 +46,5 @@ def codeword(values: Values, spot: Spot, step: str) -> typing.Iterator[str]:
 
 
 def lines(made: reporting.Report) -> typing.Iterator[str]:
-    """The lines of the file."""
     pictures = (codeword(made.suite.values[it.id], it.spot, it.step) for it in made.firsts if it.spot)
     return page.document(TITLE, page.of_report(made, reporting.text(made), itertools.chain.from_iterable(pictures)))

@@ -4,6 +4,7 @@ from __future__ import annotations
 
 from linksim_tools.common.message import shown
 from linksim_tools.conform import bits as lists
+from linksim_tools.conform.answer_lines import pairs_of
 from linksim_tools.conform.case import Case, scheduled
 
 # The names of a line, in their order, with the smallest and the largest value of those that are numbers.
@@ -16,18 +17,15 @@ MOST_LETTERS, MOST_OCTETS = 63, 163_840
 
 def line_of(case: Case, count: int) -> str:
     """The line of a case, which has `count` code blocks: a name and a value in turn, `-` if there is no limit."""
-    mask = "all"
-    if case.mask != "all":
-        named = set(scheduled(case.mask, count))
-        mask = "".join("1" if r in named else "0" for r in range(count))
-    limit = "-" if case.lbrm is None else case.lbrm
-    words: dict[str, object] = {"id": case.id, "rate2048": case.rate2048, "lbrm": limit, "rv": case.rv, "g": case.g, "qm": case.qm}
-    words.update({"nl": case.nl, "mask": mask, "a": lists.hexadecimal(case.a)})
+    named = set(scheduled(case.mask, count))
+    words = {name: getattr(case, name) for name in NAMES}
+    words["mask"] = "all" if case.mask == "all" else "".join("1" if r in named else "0" for r in range(count))
+    words["lbrm"] = "-" if case.lbrm is None else case.lbrm
+    words["a"] = lists.hexadecimal(case.a)
     return " ".join(f"{name} {value}" for name, value in words.items())
 
 
 def number_of(name: str, text: str) -> int:
-    """The number of a word."""
     least, most = NUMBERS[name]
     if not (text.isdecimal() and text.isascii() and len(text) < 12 and least <= int(text) <= most):
         raise ValueError(f"{name} is not a number from {least} to {most}: {shown(text)}")
@@ -44,18 +42,12 @@ def mask_of(text: str) -> str:
 
 
 def case_of(words: list[str]) -> Case:
-    """The case of a line's words; a mistake is a ValueError that says what is wrong."""
-    if len(words) % 2:
-        raise ValueError("an odd number of words: each name has one value")
-    found = dict(zip(words[::2], words[1::2]))
-    for name in words[::2]:
-        if name not in NAMES:
-            raise ValueError(f"unknown name: {shown(name)}")
-        if words[::2].count(name) > 1:
-            raise ValueError(f"{name} occurs twice")
+    """The case of a line's words; a mistake is an error that says what is wrong."""
+    found = dict(pairs_of(words))
+    strange = [name for name in found if name not in NAMES]
     lacking = [name for name in ("id", "rate2048", "g", "a") if name not in found]
-    if lacking:
-        raise ValueError(f"{lacking[0]} is not there")
+    if strange or lacking:
+        raise ValueError(f"unknown name: {shown(strange[0])}" if strange else f"{lacking[0]} is not there")
     digits = found["a"]
     if digits.strip("0123456789abcdefABCDEF") or len(digits) % 2 or len(digits) > 2 * MOST_OCTETS:
         raise ValueError(f"a is not hexadecimal digits of whole octets, at most {MOST_OCTETS}")

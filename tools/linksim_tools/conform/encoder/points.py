@@ -67,19 +67,14 @@ class Facts:
     def fillers_passed(self) -> bool:
         """Whether some code block has bits of both sides of fillers."""
         first, last = min(self.systematic, self.ncb), min(self.systematic + self.fillers, self.ncb)
-        if first == last:
-            return False
         before = self.live(self.k0, max(first, self.k0)) if self.k0 < last else self.to_end + max(first, 0)
-        return max(self.shares) > before
+        return first < last and max(self.shares) > before
 
     @functools.cached_property
     def parity_sent(self) -> bool:
         """Whether some code block has bits of the parity columns."""
         first = self.systematic + self.fillers
-        if self.ncb <= first:
-            return False
-        before = 0 if self.k0 >= first else self.live(self.k0, first)
-        return max(self.shares) > before
+        return self.ncb > first and max(self.shares) > (0 if self.k0 >= first else self.live(self.k0, first))
 
     @functools.cached_property
     def fillers_passed_again(self) -> bool:
@@ -93,6 +88,10 @@ class Facts:
         return self.a // 3 <= self.ones <= 2 * self.a // 3
 
 
+# Whether a case has a property.
+Test = typing.Callable[..., typing.Any]
+
+
 @dataclasses.dataclass(frozen=True)
 class Point:
     """A point: a name, its clause, what it is, and whether a case covers it. Some stand in the profile `full` alone."""
@@ -100,53 +99,39 @@ class Point:
     name: str
     clause: str
     text: str
-    holds: typing.Callable[[Facts], bool]
+    holds: Test
     long: bool = False
 
 
-def numbers(clause: str, name: str, what: str, values: tuple[int, ...], read: typing.Callable[..., typing.Any]) -> list[Point]:
+def numbers(clause: str, name: str, what: str, values: tuple[int, ...], read: Test) -> typing.Iterator[Point]:
     """A point for each value of a number."""
-    def holds(value: int) -> typing.Callable[..., typing.Any]:
-        return lambda facts: read(facts) == value
-
-    return [Point(f"{name}-{it}", clause, f"{what} = {it}", holds(it)) for it in values]
+    for value in values:
+        yield Point(f"{name}-{value}", clause, f"{what} = {value}", lambda it, value=value: read(it) == value)
 
 
-def crc_points() -> typing.Iterator[Point]:
-    """Sizes at the limit of the CRCs, and each CRC."""
+def size_points() -> typing.Iterator[Point]:
+    """Sizes at the limit of the CRCs, and each CRC; sizes and code rates at both sides of the limits of the base graph."""
     yield from numbers("6.2.1", "a", "A", (8, 3816, 3824, 3832), lambda it: it.a)
     yield Point("crc16", "5.1", "CRC16", lambda it: it.a <= 3824)
     yield Point("crc24a", "5.1", "CRC24A", lambda it: it.a > 3824)
     yield Point("crc24b", "5.1", "CRC24B of several code blocks", lambda it: it.c > 1)
-
-
-def has_both(a: int, rate: int) -> typing.Callable[[Facts], bool]:
-    """Whether a case has this size and this code rate."""
-    return lambda it: (it.a, it.rate) == (a, rate)
-
-
-def graph_points() -> typing.Iterator[Point]:
-    """Sizes and code rates at both sides of the limits of the base graph."""
     yield from numbers("6.2.2", "a", "A", (288, 296), lambda it: it.a)
     yield from numbers("6.2.2", "rate", "2048 R", (511, 512, 513, 1371, 1372, 1373), lambda it: it.rate)
     for a, rate in LIMITS:
         text = f"A = {a} at 2048 R = {rate}: base graph {right().base_graph(a, rate)}"
-        yield Point(f"a-{a}-rate-{rate}", "6.2.2", text, has_both(a, rate))
+        yield Point(f"a-{a}-rate-{rate}", "6.2.2", text, lambda it, both=(a, rate): (it.a, it.rate) == both)
 
 
-def at(graph: int, test: typing.Callable[..., typing.Any]) -> typing.Callable[..., typing.Any]:
+def at(graph: int, test: Test) -> Test:
     """A test of the cases of one base graph."""
     return lambda it: it.graph == graph and bool(test(it))
 
 
 # What a plan can be at each base graph: a name, words, the test, and whether only long blocks are such.
-PLANS = (
-    ("c-1", "C = 1", lambda it: it.c == 1, False),
-    ("c-2", "C = 2", lambda it: it.c == 2, False),
-    ("c-3", "C = 3", lambda it: it.c == 3, False),
-    ("c-4", "C > 3", lambda it: it.c > 3, False),
-    ("c-100", "C > 100", lambda it: it.c > 100, True),
-    ("fillers-0", "no filler", lambda it: not it.fillers, False),
+PLANS: tuple[tuple[str, str, Test, bool], ...] = (
+    ("c-1", "C = 1", lambda it: it.c == 1, False), ("c-2", "C = 2", lambda it: it.c == 2, False),
+    ("c-3", "C = 3", lambda it: it.c == 3, False), ("c-4", "C > 3", lambda it: it.c > 3, False),
+    ("c-100", "C > 100", lambda it: it.c > 100, True), ("fillers-0", "no filler", lambda it: not it.fillers, False),
     ("fillers-few", "fillers, fewer than a column", lambda it: 0 < it.fillers < it.z, False),
     ("fillers-many", "more fillers than a column", lambda it: it.fillers > it.z, False),
 )
@@ -157,11 +142,8 @@ def segmentation_points() -> typing.Iterator[Point]:
     yield from numbers("5.2.2", "kb", "Kb", (6, 8, 9, 10, 22), lambda it: it.plan.kb)
     for b in (192, 200, 560, 568, 640, 648):
         yield Point(f"b-{b}", "5.2.2", f"base graph 2, B = {b}", at(2, lambda it, b=b: it.b == b))
-    for graph, most, above in ((1, 8448, 8456), (2, 3840, 3856)):
-        text = f"B = {most}, Kcb of base graph {graph}"
-        yield Point(f"b-{most}", "5.2.2", text, at(graph, lambda it, b=most: it.b == b))
-        text = f"B = {above}, the next size above Kcb of base graph {graph}"
-        yield Point(f"b-{above}", "5.2.2", text, at(graph, lambda it, b=above: it.b == b))
+    for graph, b, said in ((1, 8448, ""), (1, 8456, "the next size above "), (2, 3840, ""), (2, 3856, "the next size above ")):
+        yield Point(f"b-{b}", "5.2.2", f"B = {b}, {said}Kcb of base graph {graph}", at(graph, lambda it, b=b: it.b == b))
     for graph in GRAPHS:
         for name, text, test, long in PLANS:
             yield Point(f"graph-{graph}-{name}", "5.2.2", f"base graph {graph}, {text}", at(graph, test), long)
@@ -184,24 +166,19 @@ def first_sizes() -> dict[tuple[int, int], tuple[int, int, int]]:
     return dict(sorted(found.items()))
 
 
-def lifting_points() -> typing.Iterator[Point]:
-    """Each lifting size that a transport block can reach."""
-    for graph, z in first_sizes():
-        text = f"base graph {graph}, Zc = {z} (set {SETS[z]})"
-        yield Point(f"graph-{graph}-z-{z}", "5.3.2", text, at(graph, lambda it, z=z: it.z == z))
-
-
 # What a block can be: a name, words and the test.
-BLOCKS = (
+BLOCKS: tuple[tuple[str, str, Test], ...] = (
     ("zeros", "zeros", lambda it: it.ones == 0), ("ones", "ones", lambda it: it.ones == it.a),
     ("random", "random bits", lambda it: it.random)
 )
 
 
-def encoding_points() -> typing.Iterator[Point]:
-    """A single one in each information column, zeros, ones and random bits."""
-    for graph in GRAPHS.values():
-        number = graph.number
+def coding_points() -> typing.Iterator[Point]:
+    """Each lifting size that a transport block can reach; a single one in each information column, zeros, ones and random bits."""
+    for number, z in first_sizes():
+        text = f"base graph {number}, Zc = {z} (set {SETS[z]})"
+        yield Point(f"graph-{number}-z-{z}", "5.3.2", text, at(number, lambda it, z=z: it.z == z))
+    for number, graph in GRAPHS.items():
         for column in range(graph.information):
             text = f"base graph {number}, a single one in column {column}"
             yield Point(f"graph-{number}-one-{column}", "5.3.2", text, at(number, lambda it, j=column: it.column == j))
@@ -210,21 +187,17 @@ def encoding_points() -> typing.Iterator[Point]:
 
 
 # What is selected of a code block (5.4.2.1): a name, words, and the test.
-SELECTIONS = (
+SELECTIONS: tuple[tuple[str, str, Test], ...] = (
     ("short", "E below the systematic part, from rv 0", lambda it: it.case.rv == 0 and max(it.shares) < it.systematic),
     ("fillers-crossed", "E across the fillers, from rv 0",
      lambda it: it.case.rv == 0 and it.fillers and min(it.shares) > it.systematic),
     ("end", "E to the buffer's end", lambda it: it.to_end in it.shares),
     ("twice", "E more than two rounds", lambda it: max(it.shares) > 2 * it.one_round),
-    (
-        "limit-systematic", "Ncb below K, in the systematic part",
-        lambda it: bool(it.case.lbrm) and it.ncb < it.systematic,
-    ),
+    ("limit-systematic", "Ncb below K, in the systematic part", lambda it: it.case.lbrm and it.ncb < it.systematic),
     ("limit-fillers", "Ncb below K, amid the fillers",
      lambda it: it.case.lbrm and it.fillers and it.systematic < it.ncb < it.systematic + it.fillers),
-    ("limit-parity", "Ncb in the parity part",
-     lambda it: it.case.lbrm and it.systematic + it.fillers < it.ncb < it.plan.n),
-    ("limit-n", "a limit that leaves Ncb = N", lambda it: bool(it.case.lbrm) and it.ncb == it.plan.n),
+    ("limit-parity", "Ncb in the parity part", lambda it: it.case.lbrm and it.systematic + it.fillers < it.ncb < it.plan.n),
+    ("limit-n", "a limit that leaves Ncb = N", lambda it: it.case.lbrm and it.ncb == it.plan.n),
 )
 
 
@@ -261,8 +234,9 @@ def length_points() -> typing.Iterator[Point]:
     yield Point("joined", "5.5", "several code blocks joined", lambda it: sum(share > 0 for share in it.shares) > 1)
 
 
-PARTS = [crc_points, graph_points, segmentation_points, lifting_points, encoding_points, selection_points, length_points]
+PARTS = [size_points, segmentation_points, coding_points, selection_points, length_points]
 POINTS = {point.name: point for part in PARTS for point in part()}
+WIDTH = max(map(len, POINTS))
 
 
 def covered(case: Case) -> list[str]:
@@ -271,28 +245,27 @@ def covered(case: Case) -> list[str]:
     return [point.name for point in POINTS.values() if point.holds(facts)]
 
 
-def coverage(cases: typing.Sequence[Case], failing: typing.Container[str]) -> typing.Iterator[str]:
-    """A table of the points: how many of these cases cover each, and how many of these fail. Those that none covers are last."""
-    names: dict[str, list[str]] = {name: [] for name in POINTS}
+def covering(cases: typing.Iterable[Case]) -> dict[str, list[str]]:
+    """Those of these cases that cover each point, by its name."""
+    found: dict[str, list[str]] = {name: [] for name in POINTS}
     for case in cases:
         for name in covered(case):
-            names[name].append(case.id)
-    there = sum(map(bool, names.values()))
-    yield f"{there} of {len(POINTS)} points are covered by {len(cases)} cases"
+            found[name].append(case.id)
+    return found
+
+
+def coverage(cases: typing.Sequence[Case], failing: typing.Container[str]) -> typing.Iterator[str]:
+    """A table of the points: how many of these cases cover each, and how many of these fail. Those that none covers are last."""
+    names = covering(cases)
+    yield f"{sum(map(bool, names.values()))} of {len(POINTS)} points are covered by {len(cases)} cases"
     for name, those in sorted(names.items(), key=lambda it: not it[1]):
         bad = sum(it in failing for it in those)
-        yield f"{name:{max(map(len, POINTS))}} {len(those):5} {bad:5} {POINTS[name].clause:8} {POINTS[name].text}"
+        yield f"{name:{WIDTH}} {len(those):5} {bad:5} {POINTS[name].clause:8} {POINTS[name].text}"
 
 
 def lines(profiles: dict[str, list[Case]]) -> typing.Iterator[str]:
     """A table of the points: each with the number of cases of each profile that cover it."""
-    counts = {profile: dict.fromkeys(POINTS, 0) for profile in profiles}
-    for profile, cases in profiles.items():
-        for case in cases:
-            for name in covered(case):
-                counts[profile][name] += 1
-    width = max(map(len, POINTS))
-    yield " ".join([f"{'point':{width}}", *(f"{profile:>5}" for profile in profiles), "clause   what it is"])
+    names = {profile: covering(cases) for profile, cases in profiles.items()}
+    yield " ".join([f"{'point':{WIDTH}}", *(f"{profile:>5}" for profile in profiles), "clause   what it is"])
     for name, point in POINTS.items():
-        numbers_of = [f"{counts[it][name]:5}" for it in profiles]
-        yield " ".join([f"{name:{width}}", *numbers_of, f"{point.clause:8}", point.text])
+        yield " ".join([f"{name:{WIDTH}}", *(f"{len(it[name]):5}" for it in names.values()), f"{point.clause:8}", point.text])

@@ -9,14 +9,11 @@ import itertools
 import typing
 
 from linksim_tools.conform import bits as lists
-from linksim_tools.conform.clauses import Clauses, Impossible
-from linksim_tools.conform.encoder.judging import NOTHING, Made
-from linksim_tools.conform.mistake import Mistake
+from linksim_tools.conform.case import STEPS, Plan
+from linksim_tools.conform.clauses import Clauses, Impossible, right
+from linksim_tools.conform.encoder.judging import NOTHING, Made, Trial
 from linksim_tools.conform.encoder.observations import seen_in
-from linksim_tools.conform.steps import STEPS
-
-if typing.TYPE_CHECKING:
-    from linksim_tools.conform.encoder.judging import Trial
+from linksim_tools.conform.mistake import Mistake
 
 # How many blocks are taken at most, of how many bits, and how many must agree in what was found.
 BLOCKS, BITS, AGREE = 24, 9000, 3
@@ -25,14 +22,10 @@ BLOCKS, BITS, AGREE = 24, 9000, 3
 Block = typing.Tuple[str, str]
 
 
-def as_it_is(bits: str) -> str:
-    return bits
-
-
 # Orders of the bits that a register takes, and of the parity bits, each with words.
-INPUTS: dict[str, lists.Order] = {"": as_it_is, "the bits of each octet go in lowest first": lists.each_octet_reversed,
+INPUTS: dict[str, lists.Order] = {"": str, "the bits of each octet go in lowest first": lists.each_octet_reversed,
                                   "the bits go in backwards": lists.backwards}
-OUTPUTS: dict[str, lists.Order] = {"": as_it_is, "the parity bits are sent lowest first": lists.backwards,
+OUTPUTS: dict[str, lists.Order] = {"": str, "the parity bits are sent lowest first": lists.backwards,
                                    "the octets of the parity bits are sent lowest first": lists.octets_backwards,
                                    "the parity bits of each octet are sent lowest first": lists.each_octet_reversed}
 
@@ -86,8 +79,8 @@ class Way:
         return f"{name}: " + ", ".join(said)
 
 
-def unturned(rest: int, count: int, polynomial: int) -> int:
-    """What times D to `count` gives this remainder: what the register began with."""
+def begin_of(rest: int, count: int, polynomial: int) -> int:
+    """What the register began with: what times D to `count` gives this remainder."""
     for _ in range(count):
         rest = (rest ^ polynomial if rest & 1 else rest) >> 1
     return rest
@@ -104,44 +97,43 @@ def way_of(blocks: list[Block], degree: int, right: int) -> Way | None:
         rests = [modulo(number, right) for number in numbers]
         if len(set(rests)) == 1:
             return Way(right, 0, rests[0], taken, sent)
-        begun = {unturned(rest, len(bits), right) for rest, (bits, _) in zip(rests, values)}
+        begun = {begin_of(rest, len(bits), right) for rest, (bits, _) in zip(rests, values)}
         if len(begun) == 1:
             return Way(right, begun.pop(), 0, taken, sent)
     return None
+
+
+def crc_of(plan: Plan, in_blocks: bool) -> str:
+    """The name of the CRC of code blocks, if they have one, or of the transport block."""
+    return "CRC24B" if plan.l and in_blocks else right().crc_of_block(plan.a)
 
 
 def of_answer(step: str, trial: Trial) -> typing.Iterator[tuple[str, Block]]:
     """The blocks of a trial with their parity bits as they were answered, each with the name of its CRC."""
     plan, answer = trial.right.plan, trial.answer
     if step == "crc" and answer.attached is not None:
-        yield ("CRC24A" if plan.a > 3824 else "CRC16"), (trial.case.a, answer.attached[plan.a :])
-    elif step == "codecrc" and answer.bits is not None and plan.l:
-        for bits in answer.bits:
-            yield "CRC24B", (bits[: -plan.l], bits[-plan.l :])
+        yield crc_of(plan, False), (trial.case.a, answer.attached[plan.a :])
+    for bits in answer.bits or [] if step == "codecrc" and plan.l else []:
+        yield "CRC24B", (bits[: -plan.l], bits[-plan.l :])
 
 
 def of_bits(step: str, trial: Trial) -> typing.Iterator[tuple[str, Block]]:
     """The same of what was answered after coding: the bits of the information columns that are seen."""
-    plan, rest = trial.right.plan, trial.case.a
-    parity = 0 if plan.l else plan.b - plan.a
+    plan = trial.right.plan
+    count = plan.l or plan.b - plan.a
     for seen in seen_in(step, trial):
-        width = plan.z
-        text = "".join(f"{bits ^ wrong:0{width}b}" for bits, wrong in zip(seen.columns, seen.wrong))[: plan.kdash]
-        known = "".join(f"{it:0{width}b}" for it in seen.known)[: plan.kdash]
-        count = plan.l or parity
-        if known[-count:].strip("1"):
-            continue
-        name = "CRC24B" if plan.l else "CRC24A" if plan.a > 3824 else "CRC16"
-        yield name, (text[:-count] if plan.l else rest, text[-count:])
+        text = "".join(f"{bits ^ wrong:0{plan.z}b}" for bits, wrong in zip(seen.columns, seen.wrong))[: plan.kdash]
+        known = "".join(f"{it:0{plan.z}b}" for it in seen.known)[: plan.kdash]
+        if not known[-count:].strip("1"):
+            yield crc_of(plan, True), (text[:-count] if plan.l else trial.case.a, text[-count:])
 
 
 def ways(step: str, trials: list[Trial]) -> dict[str, Way]:
     """How the parity bits of each CRC were made, if it is not the right way."""
     blocks: dict[str, list[Block]] = {}
     for trial in trials:
-        plan = trial.right.plan
-        names = ["CRC24B"] if plan.l and step != "crc" else ["CRC24A" if plan.a > 3824 else "CRC16"]
-        if len(trial.case.a) > 8 * BITS or all(len(blocks.get(name, [])) >= 2 * BLOCKS for name in names):
+        there = blocks.get(crc_of(trial.right.plan, step != "crc"), [])
+        if len(trial.case.a) > 8 * BITS or len(there) >= 2 * BLOCKS:
             continue
         try:
             Made(trial, NOTHING).of("plan")
@@ -150,9 +142,8 @@ def ways(step: str, trials: list[Trial]) -> dict[str, Way]:
                 if len(block[0]) <= BITS and len(block[1]) == degree and not (block[0] + block[1]).strip("01"):
                     blocks.setdefault(name, []).append(block)
         except Impossible:
-            continue
-        finally:
-            trial.forget()
+            pass
+        trial.forget()
     found = {}
     for name, listed in blocks.items():
         degree, terms = lists.POLYNOMIALS[name]
@@ -166,9 +157,7 @@ def ways(step: str, trials: list[Trial]) -> dict[str, Way]:
 def found(step: str, failing: list[Trial], passing: list[Trial]) -> typing.Iterator[Mistake]:
     """A mistake of the CRCs that may give a step."""
     spans = frozenset().union(*(failing[0].span(field) for field in STEPS[step][1]))
-    if spans.isdisjoint({"crc", "codecrc"}):
-        return
-    made = ways(step, [*failing, *passing])
+    made = {} if spans.isdisjoint({"crc", "codecrc"}) else ways(step, [*failing, *passing])
     if not made:
         return
 
@@ -177,6 +166,6 @@ def found(step: str, failing: list[Trial], passing: list[Trial]) -> typing.Itera
             return made[name].parity(bits) if name in made else super().crc(name, bits)
 
     said = [way.words(name, 1 << way.degree | lists.POLYNOMIALS[name][1]) for name, way in sorted(made.items())]
-    steps = ["codecrc"] if set(made) == {"CRC24B"} else ["crc"] + ["codecrc"] * ("CRC24B" in made)
+    first, *also = ["codecrc"] if set(made) == {"CRC24B"} else ["crc"] + ["codecrc"] * ("CRC24B" in made)
     change = "5.1: 0x1021, 0x864cfb, 0x800063; from zeros, the highest first"
-    yield Mistake("polynomial", steps[0], tuple(steps[1:]), "5.1", "; ".join(said), change, Wrong)
+    yield Mistake("polynomial", first, tuple(also), "5.1", "; ".join(said), change, Wrong)

@@ -3,26 +3,29 @@
 from __future__ import annotations
 
 import dataclasses
+import itertools
 import typing
 
 from linksim_tools.common.program import name_of
 from linksim_tools.conform import report as shared
-from linksim_tools.conform.case import about, size
-from linksim_tools.conform.encoder import diagnosis as diagnosing
-from linksim_tools.conform.encoder import words
+from linksim_tools.conform.case import STEPS, Answer, about, size
 from linksim_tools.conform.conditions import Common
 from linksim_tools.conform.encoder.difference import Difference, Spot
-from linksim_tools.conform.encoder.judging import Trials
+from linksim_tools.conform.encoder.judging import Trial, Trials
 from linksim_tools.conform.encoder.points import Facts
+from linksim_tools.conform.encoder.search import Fitting, Found, diagnosis
+from linksim_tools.conform.encoder.suite import Suite
 from linksim_tools.conform.files import Object
+from linksim_tools.conform.mistake import in_order
 from linksim_tools.conform.report import counted
-from linksim_tools.conform.steps import STEPS
 
-if typing.TYPE_CHECKING:
-    from linksim_tools.conform.case import Answer
-    from linksim_tools.conform.encoder.finding import Found
-    from linksim_tools.conform.encoder.judging import Mistakes, Trial
-    from linksim_tools.conform.encoder.suite import Suite
+# How many alternatives are named.
+PAIRS = 4
+
+# What the other cases are of which a condition is told.
+PASS, CHANGED = "others that pass and whose blocks are drawn bits", "others that it would change"
+LATER = "  all later steps of these cases are right: look first at what is answered of this step"
+
 
 @dataclasses.dataclass(frozen=True)
 class First(shared.First):
@@ -45,27 +48,19 @@ class Report(shared.Report):
         return 1 if self.lacking else super().status()
 
     def as_object(self) -> Object:
-        return {
-            **super().as_object(), "twice": self.twice, "lacking": self.lacking,
-            "first": dataclasses.asdict(self.firsts[0]) if self.firsts else None,
-            "firsts": [dataclasses.asdict(it) for it in self.firsts],
-            "diagnosis": [finding(self.suite, it) for it in self.diagnosis]
-        }
-
-
-def objects_of(wrong: Mistakes) -> list[dict[str, str]]:
-    """Mistakes as objects."""
-    keys = ("name", "clause", "wrong", "change")
-    return [{key: getattr(it, key) for key in keys} for it in sorted(wrong, key=lambda it: it.name)]
+        firsts = [dataclasses.asdict(it) for it in self.firsts]
+        return {**super().as_object(), "twice": self.twice, "lacking": self.lacking, "first": firsts[0] if firsts else None,
+                "firsts": firsts, "diagnosis": [finding(self.suite, it) for it in self.diagnosis]}
 
 
 def finding(suite: Suite, found: Found) -> Object:
     """What was found in a step, as JSON has it."""
     smallest = suite.cases[found.failing[0]]
     first = found.fitting[0] if found.fitting else None
-    condition = first.condition if first else found.condition
+    condition, keys = first.condition if first else found.condition, ("name", "clause", "wrong", "change")
+    mistakes = [[{key: getattr(it, key) for key in keys} for it in in_order(fitting.mistakes)] for fitting in found.fitting]
     return {"step": found.step, "behind": found.behind, "failing": len(found.failing),
-            "mistakes": [objects_of(it.mistakes) for it in found.fitting], "gives_other_cases": found.is_sure,
+            "mistakes": mistakes, "gives_other_cases": found.is_sure,
             "case_not_given": first.broken[0] if first and first.broken else None,
             "not_given": [len(it.broken) for it in found.fitting],
             "conditions": [dataclasses.asdict(it.condition) if it.condition else None for it in found.fitting],
@@ -79,10 +74,9 @@ def steps_of(suite: Suite, states: dict[str, dict[str, str]]) -> dict[str, share
     """How the cases do, by step."""
     found = {}
     for step, cases in states.items():
-        counted = list(cases.values())
-        failing = [name for name, it in cases.items() if it == "fail"]
-        failing.sort(key=lambda name: size(suite.cases[name]))
-        numbers = (counted.count("pass"), failing, counted.count("none"), counted.count("unjudged"))
+        states_of = list(cases.values())
+        failing = sorted((name for name, it in cases.items() if it == "fail"), key=lambda name: size(suite.cases[name]))
+        numbers = (states_of.count("pass"), failing, states_of.count("none"), states_of.count("unjudged"))
         found[step] = shared.Step(STEPS[step][0], *numbers)
     return found
 
@@ -95,29 +89,22 @@ def required(suite: Suite, answers: dict[str, Answer], names: typing.Iterable[st
             yield f"{name} is required, and {count} of {counted(len(suite.cases), 'case')} lack it"
 
 
-def lacking_of(trials: Trials, answers: dict[str, Answer]) -> list[str]:
-    """Which cases were answered by nothing but their id: what they have in common, or their names."""
-    lacking = [name for name in answers if name not in trials.by_name]
-    if not lacking or not trials.by_name:
-        return []
-    condition = Common({name: [Facts(trials.suite.cases[name])] for name in answers}).condition(lacking, list(trials.by_name))
-    if condition:
-        return [f"not answered: exactly where {condition.words} ({counted(len(lacking), 'case')})"]
-    return [f"not answered: {shared.listed(lacking)}"]
-
-
-def notes_of(trials: Trials, steps: dict[str, shared.Step]) -> list[str]:
-    """What is said and left out of account."""
-    notes = []
+def notes_of(trials: Trials, steps: dict[str, shared.Step], answers: dict[str, Answer]) -> typing.Iterator[str]:
+    """What is said and left out of account. Of cases that were answered by nothing but their id it is what they have in common, or
+    their names."""
     if trials.zeros:
-        notes.append(f"zeros stand at the fillers of d in {counted(len(trials.zeros), 'case')}: they are taken for fillers")
+        yield f"zeros stand at the fillers of d in {counted(len(trials.zeros), 'case')}: they are taken for fillers"
     if trials.from_d:
-        notes.append(f"code block CRC of {counted(len(trials.from_d), 'case')} is judged from d")
+        yield f"code block CRC of {counted(len(trials.from_d), 'case')} is judged from d"
     for step in steps.values():
         if step.unjudged:
             said = "what was answered before cannot be its input, or what was not fails in other cases"
-            notes.append(f"{step.name} of {step.unjudged} cases is not judged: {said}")
-    return notes
+            yield f"{step.name} of {step.unjudged} cases is not judged: {said}"
+    lacking = [name for name in answers if name not in trials.by_name]
+    if lacking and trials.by_name:
+        condition = Common({name: [Facts(trials.suite.cases[name])] for name in answers}).condition(lacking, list(trials.by_name))
+        where = f"exactly where {condition.words} ({counted(len(lacking), 'case')})" if condition else shared.listed(lacking)
+        yield f"not answered: {where}"
 
 
 def judged(suite: Suite, answers: dict[str, Answer], troubles: typing.Sequence[str] = (),
@@ -125,7 +112,7 @@ def judged(suite: Suite, answers: dict[str, Answer], troubles: typing.Sequence[s
     """The report without a diagnosis. `troubles` are lines about answers that could not be judged."""
     trials = Trials(suite, answers)
     steps = steps_of(suite, trials.states)
-    said = [*notes, *notes_of(trials, steps), *lacking_of(trials, answers)]
+    said = [*notes, *notes_of(trials, steps, answers)]
     made = Report(suite, len(trials.by_name), steps, list(troubles), said, names=trials.by_name)
     made.firsts = [first_of(trials, step, it.failing) for step, it in steps.items() if it.failing]
     return made, trials
@@ -133,8 +120,7 @@ def judged(suite: Suite, answers: dict[str, Answer], troubles: typing.Sequence[s
 
 def first_of(trials: Trials, step: str, failing: list[str]) -> First:
     """The first difference of a step, and which code blocks differ in all cases."""
-    case, trial = trials.suite.cases[failing[0]], trials.by_name[failing[0]]
-    difference = Difference(trial, step)
+    case, difference = trials.suite.cases[failing[0]], Difference(trials.by_name[failing[0]], step)
     lines = [*difference.lines(), *blocks_of(step, [trials.by_name[it] for it in failing])]
     return First(step, case.id, lines, about(case), difference.spot())
 
@@ -142,11 +128,9 @@ def first_of(trials: Trials, step: str, failing: list[str]) -> First:
 def blocks_of(step: str, failing: list[Trial]) -> list[str]:
     """Which code blocks differ in the cases that have several, if they are not all."""
     field = STEPS[step][1][-1]
-    wrong: list[list[bool]] = []
-    for trial in failing:
-        found, right = getattr(trial.answer, field), getattr(trial.right, field)
-        if isinstance(found, list) and len(found) == len(right) > 1 and found != right:
-            wrong.append([one != two for one, two in zip(found, right)])
+    both = [(getattr(trial.answer, field), getattr(trial.right, field)) for trial in failing]
+    wrong = [[one != two for one, two in zip(found, right)] for found, right in both
+             if isinstance(found, list) and len(found) == len(right) > 1 and found != right]
     for said, test in (
         ("r = 0 is right, all others are wrong", lambda it: it == [False] + [True] * (len(it) - 1)),
         ("only r = 0 is wrong", lambda it: it == [True] + [False] * (len(it) - 1)),
@@ -160,31 +144,101 @@ def blocks_of(step: str, failing: list[Trial]) -> list[str]:
 
 def report(suite: Suite, answers: dict[str, Answer], troubles: typing.Sequence[str] = (),
            notes: typing.Sequence[str] = ()) -> Report:
-    """The whole report."""
     made, trials = judged(suite, answers, troubles, notes)
     if made.firsts:
-        made.diagnosis = diagnosing.diagnosis(suite, trials)
+        made.diagnosis = diagnosis(suite, trials)
     return made
 
 
-def first_lines(made: Report, first: First) -> typing.Iterator[str]:
-    failing = made.steps[first.step].failing
-    yield f"first difference, step {STEPS[first.step][0]}, in the smallest case that fails: {first.id}"
-    yield f"  {first.case}"
-    yield from (f"  {line}" for line in first.difference)
-    yield f"  cases that fail in this step: {shared.listed(failing)}"
+def alternatives(found: Found) -> str:
+    """What is said of several mistakes of which each fits."""
+    same = "these give the same bits in every case of this suite"
+    if found.apart is None:
+        return f"{same}, so it cannot tell them apart:" if found.alike else "each of these gives all that was answered:"
+    if found.alike:
+        return f"{same}; {found.apart} tells them apart, if it is answered:"
+    return f"each of these gives all that was answered; answer {found.apart} too, and they are told apart:"
+
+
+def head_lines(suite: Suite, found: Found) -> typing.Iterator[str]:
+    """What is said of a step before its mistakes, or if there are none: then what is exact comes first."""
+    behind = f" (with {', '.join(found.behind)} made right)" if found.behind else ""
+    title = f"diagnosis, step {STEPS[found.step][0]}{behind}"
+    if not found.fitting:
+        smallest = suite.cases[found.failing[0]]
+        exact = filter(None, (found.cut, found.condition and found.condition.line(PASS)))
+        yield f"{title}: none of the known mistakes, and no pair of them, gives these bits"
+        yield from (f"  {line}" for line in (*exact, *found.told))
+        if found.alone:
+            yield LATER
+        yield f"  the smallest case that fails: {smallest.id}: {about(smallest)}"
+        yield f"  its vector: {name_of('conform')} show {suite.path} {smallest.id}"
+        return
+    all_cases = "1 case that fails" if len(found.failing) == 1 else f"all {len(found.failing)} cases that fail"
+    others = " and all others" if found.is_sure else ""
+    if found.out_of:
+        all_cases, others = f"{len(found.failing)} of the {found.out_of} cases that fail", ", and all that pass"
+    yield f"{title}: {shared.what_gives([it.names() for it in found.fitting])} {all_cases}{others}"
+    if len(found.fitting) == 1:
+        yield from condition_lines(found.fitting[0], "  ")
+    if found.alone:
+        yield LATER
+    if len(found.fitting) > 1:
+        yield "  " + alternatives(found)
+
+
+def condition_lines(fitting: Fitting, margin: str) -> typing.Iterator[str]:
+    """When mistakes are made that do not give all cases."""
+    if fitting.condition:
+        yield margin + fitting.condition.line(CHANGED)
+    elif fitting.broken:
+        yield f"{margin}but not case {fitting.broken[0]}, which is right: look for a condition under which it is made"
+
+
+def finding_lines(suite: Suite, found: Found) -> typing.Iterator[str]:
+    """The lines of what was found in a step."""
+    yield from head_lines(suite, found)
+    for fitting in found.fitting[:PAIRS]:
+        for mistake in in_order(fitting.mistakes):
+            yield f"  {mistake.name} ({mistake.clause}): {mistake.wrong}"
+            yield f"    change: {mistake.change}"
+        if len(fitting.mistakes) > 1:
+            yield "    both together"
+        if len(found.fitting) > 1:
+            yield from condition_lines(fitting, "    ")
+    if len(found.fitting) > PAIRS:
+        yield f"  and {len(found.fitting) - PAIRS} more"
+
+
+def next_lines(made: Report) -> typing.Iterator[str]:
+    """What to do next if a step has no name, and which steps may fail by one fault."""
+    for before, step in itertools.combinations((it for it in made.steps.values() if it.failing), 2):
+        if set(step.failing) <= set(before.failing):
+            yield f"all cases that fail in {step.name} fail in {before.name} too: it may be one fault"
+            break
+    if all(it.fitting for it in made.diagnosis):
+        return
+    most = {it.step for it in made.diagnosis if not it.fitting and 2 * len(it.failing) > made.answered}
+    is_coding = "ldpc" in most or "concatenation" in most and made.steps["ldpc"].kind == "none"
+    table = ["compare the fingerprint of your table with the suite's"] if is_coding else []
+    lacking = [STEPS[name][1][-1] for name, step in made.steps.items() if step.kind == "none" and name != "graph"]
+    answer = [f"answer {', '.join(lacking)} too"] if lacking else []
+    full = ["take a suite of --profile full"] if made.suite.profile == "quick" else []
+    twice = [] if made.twice else ["run --twice shows whether the state of an earlier case is left"]
+    yield "next: " + "; ".join([*table, *answer, *twice, *full, "ask the smallest case alone, by a suite of --cases"])
 
 
 def text(made: Report) -> typing.Iterator[str]:
     """The lines of the report for a terminal."""
-    yield from made.head_lines()
-    yield from made.lacking
+    yield from (*made.head_lines(), *made.lacking)
     for first in made.firsts:
-        yield from first_lines(made, first)
+        yield f"first difference, step {STEPS[first.step][0]}, in the smallest case that fails: {first.id}"
+        yield from (f"  {line}" for line in (first.case, *first.difference))
+        yield f"  cases that fail in this step: {shared.listed(made.steps[first.step].failing)}"
     for found in made.diagnosis:
-        yield from words.finding_lines(made.suite, found)
+        yield from finding_lines(made.suite, found)
     if made.firsts:
-        yield from words.next_lines(made)
+        yield from next_lines(made)
     elif not made.troubles:
         yield made.end_line()
     yield from made.twice

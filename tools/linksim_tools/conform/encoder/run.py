@@ -1,19 +1,23 @@
-"""Runs an encoder on a suite: a line for each case to its standard input, and an answer from its standard output."""
+"""Runs an encoder on a suite: a line for each case to its standard input, and an answer from its standard output. Failing cases may
+be asked again: whether the command gives one answer to a case, and whether what was asked before matters."""
 
 from __future__ import annotations
 
 import dataclasses
 import json
-import typing
 
 from linksim_tools.conform import run as running
+from linksim_tools.conform.case import Answer, Case
 from linksim_tools.conform.command import Stopped
 from linksim_tools.conform.encoder import plain as plains
 from linksim_tools.conform.encoder import suite as suites
 from linksim_tools.conform.encoder.answers import answer_of, most_octets
+from linksim_tools.conform.encoder.judging import same
 
-if typing.TYPE_CHECKING:
-    from linksim_tools.conform.case import Answer, Case
+# How many failing cases are asked again, and after how many of those before it each is asked.
+AGAIN, BEFORE = 12, 8
+
+LEFT = "the state of an earlier case is left"
 
 
 @dataclasses.dataclass(frozen=True)
@@ -50,17 +54,15 @@ class Run(running.Run[str]):
         return f"case {wanted}"
 
     def ask_case(self, name: str) -> None:
-        """Asks a case."""
         self.ask(name, self.form.question(self.suite.cases[name], self.suite))
 
-    def go(self, names: typing.Iterable[str]) -> None:
-        """Asks these cases, until the command answers no more."""
+    def go(self) -> None:
+        """Asks all cases, until the command answers no more."""
         with self.going_on():
-            for name in names:
+            for number, name in enumerate(self.suite.cases, 1):
                 try:
                     self.ask_case(name)
                 except Stopped as stopped:
-                    number = list(self.suite.cases).index(name) + 1
                     if not self.stopped(f"case {name}, number {number} of {len(self.suite.cases)}", stopped):
                         return
 
@@ -68,5 +70,59 @@ class Run(running.Run[str]):
 def answers(form: Form, suite: suites.Suite) -> tuple[dict[str, Answer], list[str], list[str]]:
     """The answers of a command by id, lines about what could not be judged, and notes."""
     run = Run(form, suite)
-    run.go(suite.cases)
+    run.go()
     return run.there, run.troubles, run.notes()
+
+
+@dataclasses.dataclass
+class Again:
+    """A suite with what was answered to it, and how the command is asked once more."""
+
+    form: Form
+    suite: suites.Suite
+    answered: dict[str, Answer]
+
+    def last(self, *names: str) -> Answer | None:
+        """The answer of a command of its own to the last of these cases; None if it gives none."""
+        run = Run(dataclasses.replace(self.form, skip=0), self.suite)
+        try:
+            for name in names:
+                run.there.clear()
+                run.ask_case(name)
+        except Stopped:
+            return None
+        finally:
+            run.end()
+        return run.there.get(names[-1])
+
+    def before(self, name: str, alone: Answer | None) -> str | None:
+        """The case before this one after which another answer comes than alone; the nearest is tried first."""
+        names = [it for it in self.suite.cases if it in self.answered]
+        place = names.index(name)
+        near = names[max(place - BEFORE, 0) : place][::-1]
+        return next((it for it in near if self.last(it, name) != alone), None)
+
+    def line(self, name: str) -> str | None:
+        """What is said of a case whose answer is not always the same."""
+        alone, right = self.last(name), self.suite.values[name]
+        if self.last(name) != alone:
+            return f"case {name} asked alone twice: two answers: the command is not deterministic"
+        is_right = alone and all(same(it, getattr(alone, it), getattr(right, it)) for it in alone.names())
+        said = "missing" if alone is None else "right" if is_right else "wrong"
+        if alone != self.answered[name]:
+            before = self.before(name, alone)
+            after = f"after case {before} it is another" if before else "after the cases before it it was another"
+            return f"case {name} asked alone: its answer is {said}, {after}: {LEFT}"
+        if self.last(name, name) != alone:
+            return f"case {name} asked alone: its answer is {said}, after itself it is another: {LEFT}"
+        return None
+
+
+def again(form: Form, suite: suites.Suite, answered: dict[str, Answer], failing: list[str]) -> list[str]:
+    """Lines about failing cases that were asked again."""
+    of = Again(form, suite, answered)
+    lines = [line for line in map(of.line, failing[:AGAIN]) if line]
+    if lines or not failing:
+        return lines
+    count = f"{min(len(failing), AGAIN)} failing cases" if len(failing) > 1 else "the failing case"
+    return [f"{count} asked again, alone and after themselves: the answers are the same"]

@@ -13,6 +13,7 @@ from linksim_tools.common.message import shown
 from linksim_tools.common.program import Failed, name_of
 from linksim_tools.conform import bits as lists
 from linksim_tools.conform import code
+from linksim_tools.conform.answer_lines import Wrong
 from linksim_tools.conform.case import PLAN, Case, Plan, Tables, Values
 from linksim_tools.conform.chain import Chain
 from linksim_tools.conform.clauses import Impossible, right
@@ -23,27 +24,21 @@ from linksim_tools.conform.files import FORMAT, Object, entries_of, listed, made
 
 def given(case: Case, form: str = "hex") -> Object:
     """What an encoder is given of a case, as JSON has it."""
-    transmission = {"rv": case.rv, "g": case.g, "qm": case.qm, "nl": case.nl, "mask": case.mask}
-    head = {"id": case.id, "rate2048": case.rate2048, "lbrm": case.lbrm, "transmission": transmission}
-    return {**head, "a": packed(form, case.a)}
+    transmission = {name: getattr(case, name) for name in ("rv", "g", "qm", "nl", "mask")}
+    return {"id": case.id, "rate2048": case.rate2048, "lbrm": case.lbrm, "transmission": transmission, "a": packed(form, case.a)}
 
 
-def parts_of(values: Values, form: str) -> list[str]:
+def parts_of(values: Values, form: str) -> typing.Iterator[str]:
     """The JSON text of each code block."""
-    parts = []
     for r, d in enumerate(values.d):
-        part: Object = {"r": r, "bits": packed(form, values.bits[r])}
-        part.update({"k0": values.k0, "Ncb": values.Ncb, "E": values.E[r]})
-        part.update({"e": packed(form, values.e[r]), "f": packed(form, values.f[r])})
-        parts.append(json.dumps(part)[:-1] + f', "d": {listed(d)}}}')
-    return parts
+        part = {"r": r, "bits": packed(form, values.bits[r]), "k0": values.k0, "Ncb": values.Ncb, "E": values.E[r],
+                "e": packed(form, values.e[r]), "f": packed(form, values.f[r])}
+        yield json.dumps(part)[:-1] + f', "d": {listed(d)}}}'
 
 
-def line_of(case: Case, values: Values, covers: list[str], form: str) -> str:
-    """The line of a case."""
-    head = given(case, form)
-    head = {"id": head.pop("id"), "covers": covers, **head}
-    head.update({"attached": packed(form, values.attached), "plan": dataclasses.asdict(values.plan)})
+def line_of(case: Case, values: Values, form: str) -> str:
+    head = {"id": case.id, "covers": points.covered(case), **given(case, form), "attached": packed(form, values.attached),
+            "plan": dataclasses.asdict(values.plan)}
     tail = json.dumps(packed(form, values.sent))
     return f'{json.dumps(head)[:-1]}, "codeblocks": [{", ".join(parts_of(values, form))}], "sent": {tail}}}'
 
@@ -73,7 +68,7 @@ def own_cases(path: str | pathlib.Path, tables: Tables) -> list[Case]:
                 raise ValueError(f"the table lacks base graph {facts.graph}")
             if facts.b % facts.c:
                 raise ValueError(f"a block of {facts.a} bits cannot be cut; {name_of('vectors')} near names sizes that can")
-        except (ValueError, Impossible) as error:
+        except (ValueError, Impossible, Wrong) as error:
             raise Failed(f"{path} line {number}: {error}") from None
         found[case.id] = case
     if not found:
@@ -101,11 +96,10 @@ def written(path: str, profile: str, seed: int, form: str, own: str | None = Non
     """The lines of a suite: of a profile, or of the cases of a file of one's own."""
     tables = entries_of(path)
     cases = cases_of(tables, profile, seed) if own is None else own_cases(own, tables)
-    head: Object = {"conform": FORMAT, "profile": profile if own is None else "own"}
-    head.update({"seed": seed if own is None else None, "cases": len(cases), "made": made_by(path)})
-    yield json.dumps({**head, "table": code.records_of(tables)})
+    which = {"profile": profile, "seed": seed} if own is None else {"profile": "own", "seed": None}
+    yield json.dumps({"conform": FORMAT, **which, "cases": len(cases), "made": made_by(path), "table": code.records_of(tables)})
     for case, values in judged(path, tables, cases):
-        yield line_of(case, values, points.covered(case), form)
+        yield line_of(case, values, form)
 
 
 @dataclasses.dataclass(frozen=True, eq=False)
@@ -141,7 +135,6 @@ def case_of(value: Object) -> tuple[Case, Values]:
 
 
 def read(path: str | pathlib.Path) -> Suite:
-    """A suite file."""
     head, tables, found = suite_of(path, "conform", {"profile"}, case_of)
     cases, values = {name: it for name, (it, _) in found.items()}, {name: it for name, (_, it) in found.items()}
     made = {str(name): str(it) for name, it in head.get("made", {}).items()}

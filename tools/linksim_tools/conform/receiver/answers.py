@@ -1,36 +1,38 @@
-"""The answers of a receiver, a JSON object or plain words a line."""
+"""The answers of a receiver, a JSON object or plain words a line: of a file, or of a command. That has a line for each transmission
+at its standard input, and `reset` before each case, or it is started again for each."""
 
 from __future__ import annotations
 
+import dataclasses
+import json
 import pathlib
 import typing
 
 from linksim_tools.common.message import shown
 from linksim_tools.conform import bits as lists
+from linksim_tools.conform import run as running
 from linksim_tools.conform.answer_lines import Repeated, Wrong, object_of, pairs_of, taken_from
+from linksim_tools.conform.command import Stopped
 from linksim_tools.conform.files import Object
 from linksim_tools.conform.receiver import steps
-from linksim_tools.conform.receiver.reception import UNSUPPORTED, Answer
+from linksim_tools.conform.receiver.reception import UNSUPPORTED, Answer, Level
+from linksim_tools.conform.receiver.suite import TOLD, Suite, told_of
 
 if typing.TYPE_CHECKING:
-    from linksim_tools.conform.receiver.suite import Suite
+    from linksim_tools.conform.receiver.reception import Case
 
 NAMES = ("id", "tx", "delivered", "passed", "info", "soft")
 # What a case's own line has beside these names: a receiver may send all of it back.
-PASSED_OVER = ("process", "fresh", "a", "rate2048", "lbrm", "rv", "g", "qm", "nl", "mask", "llr")
-
+PASSED_OVER = (*TOLD, "llr")
+RESET = {True: "reset", False: json.dumps({"reset": True})}
 # The answers by case, one a transmission, None if there is none.
 Answers = typing.Dict[str, typing.List[typing.Optional[Answer]]]
 
 
 def most_octets(suite: Suite) -> int:
     """How long a line of an answer may be: longer than the longest one of the suite with every soft value."""
-    longest = 0
-    for kept in suite.cases.values():
-        for told in kept.case.arrivals:
-            sizes = steps.sizes(told.a, told.rate2048, frozenset())
-            longest = max(longest, sizes.c * (sizes.size + sizes.k) + told.a)
-    return 65_536 + 8 * longest
+    all_sizes = {steps.sizes(told.a, told.rate2048) for kept in suite.cases.values() for told in kept.case.arrivals}
+    return 65_536 + 8 * max((it.c * (it.size + it.k) + it.a for it in all_sizes), default=0)
 
 
 def block_of(value: typing.Any) -> str | None:
@@ -86,8 +88,10 @@ def from_words(words: list[str]) -> Object:
     return value
 
 
-def place_of(name: str, tx: typing.Any, suite: Suite, there: Answers) -> tuple[str, int]:
-    """Which transmission is answered."""
+def take(line: bytes, plain: bool, suite: Suite, there: Answers, wanted: tuple[str, int] | None = None) -> None:
+    """Takes a line as an answer; the transmission `wanted` was asked for."""
+    name, value = object_of(line, from_words if plain else None)
+    tx = value.get("tx")
     if name not in suite.cases:
         raise Wrong(f"the suite has no case {shown(name)}")
     if type(tx) is not int:
@@ -97,23 +101,83 @@ def place_of(name: str, tx: typing.Any, suite: Suite, there: Answers) -> tuple[s
         raise Wrong(f"case {name} has no transmission {tx}: it has {count}, from 0 on")
     if there.get(name, [None] * count)[tx] is not None:
         raise Repeated(f"transmission {tx} of case {name} was answered before")
-    return name, tx
-
-
-def take(line: bytes, plain: bool, suite: Suite, there: Answers, wanted: tuple[str, int] | None = None) -> None:
-    """Takes a line as an answer; the transmission `wanted` was asked for."""
-    name, value = object_of(line, from_words if plain else None)
-    name, tx = place_of(name, value.get("tx"), suite, there)
     if wanted is not None and (name, tx) != wanted:
         raise Wrong(f"an answer to transmission {tx} of case {name}, where {wanted[1]} of {wanted[0]} was asked")
     try:
         answer = from_object(value)
     except Wrong as wrong:
         raise wrong if wanted is not None else Wrong(f"transmission {tx} of case {name}: {wrong}") from None
-    there.setdefault(name, [None] * len(suite.cases[name].case.arrivals))[tx] = answer
+    there.setdefault(name, [None] * count)[tx] = answer
 
 
 def read(path: str | pathlib.Path, suite: Suite, plain: bool) -> tuple[Answers, list[str], list[str]]:
     """The answers of a file, lines about those that cannot be judged, and notes about lines that are none."""
     there: Answers = {}
     return (there, *taken_from(path, most_octets(suite), lambda line: take(line, plain, suite, there)))
+
+
+@dataclasses.dataclass(frozen=True)
+class Manner:
+    """How a receiver is asked. It is started anew so often if it stops, or for each case."""
+
+    level: Level = Level()
+    plain: bool = False
+    seconds: float = 10.0
+    restart: bool = False
+    skip: int = 0
+
+
+def lines_of(case: Case, manner: Manner) -> list[str]:
+    """The lines of a case, one of each transmission; the first one has `reset` before it."""
+    found = []
+    for tx, (told, values) in enumerate(zip(case.arrivals, case.values)):
+        asked = {"id": case.id, "tx": tx, **told_of(told)}
+        if manner.plain:
+            llr = ",".join(map(str, manner.level.listed(values)))
+            words = {**asked, "lbrm": "-" if told.lbrm is None else told.lbrm, "llr": llr}
+            found.append(" ".join(f"{name} {value}" for name, value in words.items()))
+        else:
+            found.append(json.dumps({**asked, "llr": manner.level.listed(values)}))
+    return found if manner.restart else [f"{RESET[manner.plain]}\n{found[0]}", *found[1:]]
+
+
+class Run(running.Run[typing.Tuple[str, int]]):
+    """A run of a receiver on a suite: what it answered by case."""
+
+    def __init__(self, command: list[str], suite: Suite, manner: Manner) -> None:
+        super().__init__(command, most_octets(suite), manner.seconds, manner.skip)
+        self.suite, self.manner = suite, manner
+        self.there: Answers = {}
+
+    def judge(self, line: bytes, wanted: tuple[str, int]) -> None:
+        take(line, self.manner.plain, self.suite, self.there, wanted)
+
+    def place(self, wanted: tuple[str, int]) -> str:
+        return f"case {wanted[0]}, transmission {wanted[1]}"
+
+    def case(self, number: int, case: Case) -> bool:
+        """Asks all transmissions of a case; says whether another case may follow."""
+        for tx, line in enumerate(lines_of(case, self.manner)):
+            try:
+                self.ask((case.id, tx), line)
+            except Stopped as stopped:
+                place = f"{self.place((case.id, tx))}, number {number} of {len(self.suite.cases)}"
+                return self.stopped(place, stopped, self.manner.restart)
+        if self.manner.restart:
+            self.end()
+        return True
+
+    def go(self) -> None:
+        with self.going_on():
+            for number, kept in enumerate(self.suite.cases.values(), 1):
+                if self.manner.level.asks(kept.case) and not self.case(number, kept.case):
+                    return
+
+
+def asked(command: list[str], suite: Suite, manner: Manner) -> tuple[Answers, list[str], list[str]]:
+    """The answers of a command, lines about what could not be judged, and notes."""
+    run = Run(command, suite, manner)
+    run.go()
+    left_out = sum(not manner.level.asks(kept.case) for kept in suite.cases.values())
+    said = [f"{left_out} cases with values of several strengths are not asked at this level"] * (left_out > 0)
+    return run.there, run.troubles, [*run.notes(), *said]

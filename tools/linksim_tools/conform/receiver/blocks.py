@@ -16,65 +16,29 @@ if typing.TYPE_CHECKING:
     from linksim_tools.conform.receiver.chain import Receiver
 
 
-# Which columns are wanted: the lowest first. A column counts from the first parity one.
-def early(t: int, column: int, copy: int) -> typing.Any:
-    """The first columns, information before parity."""
-    return column
-
-
-def parity(t: int, column: int, copy: int) -> typing.Any:
-    """Parity before information."""
-    return (column < 0, column)
-
-
-def extension(t: int, column: int, copy: int) -> typing.Any:
-    """Anything before the core parity columns."""
-    return (0 <= column < 4, column)
-
-
-def late(t: int, column: int, copy: int) -> typing.Any:
-    """The last columns."""
-    return -column
-
-
-def even(t: int, column: int, copy: int) -> typing.Any:
-    """Columns of all transmissions in turn."""
-    return ((column + t) % 2, column)
-
-
-def last(t: int, column: int, copy: int) -> typing.Any:
-    """What the last transmission has."""
-    return (-t, column)
-
-
-def first(t: int, column: int, copy: int) -> typing.Any:
-    """What the first transmission has."""
-    return (t, -column)
-
-
-def second_copy(t: int, column: int, copy: int) -> typing.Any:
-    """What arrives as a second copy."""
-    return (copy == 0, column)
-
-
-def first_copy(t: int, column: int, copy: int) -> typing.Any:
-    """What arrives as a first copy."""
-    return (copy, column)
-
-
-TIGHT = (early, extension, parity, even, late)
-
-
-def codewords(a: int, rate2048: int) -> steps.Sizes:
-    """The right sizes of a block."""
-    return steps.sizes(a, rate2048, steps.RIGHT)
+# Which columns are wanted, the lowest first, by what is said of them: of a transmission, a column that counts from the first parity
+# one, and a copy.
+WANTED: dict[str, drafts.Wanted] = {
+    "early": lambda t, column, copy: column, "late": lambda t, column, copy: -column,
+    "parity": lambda t, column, copy: (column < 0, column), "even": lambda t, column, copy: ((column + t) % 2, column),
+    # Anything before the core parity columns.
+    "extension": lambda t, column, copy: (0 <= column < 4, column),
+    "first": lambda t, column, copy: (t, -column), "last": lambda t, column, copy: (-t, column),
+    "first-copy": lambda t, column, copy: (copy, column), "second-copy": lambda t, column, copy: (copy == 0, column),
+    # Columns of all transmissions in turn, and of a later one rather; each third one; anything before the even ones of the first.
+    "in turn": lambda t, column, copy: (copy, (column + t) % 5, -t, column),
+    "in thirds": lambda t, column, copy: ((column + t) % 3, column),
+    "all but even": lambda t, column, copy: (t == 0 and column % 2 == 0, column),
+}
+# In which order others are tried.
+TIGHT = ("early", "extension", "parity", "even", "late")
 
 
 def sized(a: int, rate2048: int, versions: typing.Sequence[int], part: float | typing.Sequence[float], qm: int = 1, nl: int = 1,
           limit: int | None = None, mask: tuple[int, ...] | None = None, over: int = 0) -> list[Arrival]:
     """Transmissions of these versions with about so much of a round of the buffer each. `limit` is Ncb in hundredths
     of a codeword; `over` are symbols that are not shared out evenly."""
-    sizes = codewords(a, rate2048)
+    sizes = steps.sizes(a, rate2048)
     lbrm = None if limit is None else -(-2 * sizes.c * (sizes.n * limit // 100) // 3)
     whole = sizes.n if lbrm is None else min(sizes.n, 3 * lbrm // (2 * sizes.c))
     unit, count = qm * nl, sizes.c if mask is None else len(mask)
@@ -113,32 +77,27 @@ class Maker:
         return f"{random.Random(f'{self.seed} {name}').getrandbits(a):0{a}b}"
 
     def receiver(self, *wrong: str) -> Receiver:
-        """A receiver with these mistakes."""
         return receiver_with(frozenset(wrong))(self.tables)
 
-    def draft(self, name: str, arrivals: list[Arrival], wanted: drafts.Wanted | None = early, bits: str | None = None) -> Draft:
-        """A draft for a right receiver, with as little as fixes the block."""
-        made = Draft(self.receiver(), arrivals, bits or self.block(name, arrivals[0].a))
-        if wanted is None:
-            return made
-        found = made.critical(wanted, seed=name)
+    def draft(self, name: str, arrivals: list[Arrival], wanted: str = "early", bits: str | None = None) -> Draft:
+        """A draft for a right receiver, with as little as fixes the block by the columns that are wanted."""
+        found = self.whole(name, arrivals, bits).critical(WANTED[wanted], seed=name)
         if found is None:
             raise NoPattern(name)
         return found
 
-    def tight(self, name: str, arrivals: list[Arrival]) -> Draft:
-        """The same with no value more than there are information bits, if one is found."""
-        best: Draft | None = None
-        for wanted in TIGHT:
-            found = Draft(self.receiver(), arrivals, self.block(name, arrivals[0].a)).critical(wanted, seed=name)
-            if found is not None and (best is None or found.slack() < best.slack()):
-                best = found
-            if best is not None and best.slack() == 0:
-                return best
-        if best is None:
-            raise NoPattern(name)
-        return best
+    def whole(self, name: str, arrivals: list[Arrival], bits: str | None = None) -> Draft:
+        """A draft for a right receiver, to which everything arrives."""
+        return Draft(self.receiver(), arrivals, bits or self.block(name, arrivals[0].a))
 
-    def case(self, name: str, step: str, what: str, made: Draft) -> Case:
-        """A case of a draft."""
-        return Case(name, step, what, made.arrivals, made.values(), [made.bits] * len(made.arrivals))
+    def tight(self, name: str, arrivals: list[Arrival]) -> Draft:
+        """A draft with no value more than there are information bits, if one is found."""
+        tried = (self.whole(name, arrivals).critical(WANTED[wanted], seed=name) for wanted in TIGHT)
+        found = drafts.best((it for it in tried if it is not None), Draft.slack, 0)
+        if found is None:
+            raise NoPattern(name)
+        return found
+
+    def case(self, name: str, step: str, what: str, made: Draft, strength: str = "+-") -> Case:
+        """A case of a draft, by these characters of its values."""
+        return Case(name, step, what, made.arrivals, made.values(strength), [made.bits] * len(made.arrivals))

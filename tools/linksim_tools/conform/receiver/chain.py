@@ -7,20 +7,22 @@ import dataclasses
 import functools
 import typing
 
+from linksim_tools.conform.clauses import Clauses
 from linksim_tools.conform.receiver import peeling, steps
 from linksim_tools.conform.receiver.soft import Soft, digits, empty, gathered, known_and_ones, part_of_signs, summed
-from linksim_tools.conform.receiver.reception import Answer, Arrival
+from linksim_tools.conform.receiver.reception import MODEL, Answer, Arrival, Case, Level, octets_of
 
 # What stands for the sum of a digit and twice another.
-BITS = bytes.maketrans(bytes(range(0x90, 0x94)), b"??01")
+BITS = bytes.maketrans(bytes(range(0x90, 0x94)), b"01??")
 # So many iterations all decoders make: what a later one finds differs from decoder to decoder, as after a clash.
 STEADY = 24
+# The listed mistakes by which selection reads other places.
+SELECTING = frozenset(["fillers-counted", "wrapped-at-n"])
 
 
 @dataclasses.dataclass
 class Process:
-    """What a HARQ process keeps. It has the first transmission of its block, the soft values of the codewords, and the
-    block if it was delivered. It also has how many values of each code block came first and last, and which passed."""
+    """What a HARQ process keeps: of its block, of the values of each code block that came first and last, and what passed."""
 
     first: Arrival | None = None
     soft: list[Soft] | None = None
@@ -28,29 +30,17 @@ class Process:
     first_lengths: list[int] = dataclasses.field(default_factory=list)
     lengths: list[int] = dataclasses.field(default_factory=list)
     sticking: str | None = None
-    passed: dict[int, Decoded] = dataclasses.field(default_factory=dict)
+    passed: dict[int, str] = dataclasses.field(default_factory=dict)
     left: list[Soft] | None = None
 
 
-@dataclasses.dataclass
-class Decoded:
-    """What a decoder makes of a code block. It has the signs of its information bits, `?` for one that is not known. It
-    also has its bits, which are zeros if they are not known."""
-
-    info: str
-    bits: str
-
-
 @functools.lru_cache(1024)
-def information(found: peeling.Peeled, z: int, info: range) -> Decoded:
-    """The information bits of what was peeled."""
+def information(found: peeling.Peeler, z: int, info: range) -> str:
+    """The information bits of what was peeled, `?` for one that is not known."""
     columns = -(-info.stop // z)
-    known = peeling.text_of(found.known[:columns], z)[info.start : info.stop]
-    bits = peeling.text_of(found.ones[:columns], z)[info.start : info.stop]
-    if "0" not in known:
-        return Decoded(bits, bits)
-    once, twice = digits((bits.encode(), known.encode()))
-    return Decoded((once + 2 * twice).to_bytes(len(bits), "big").translate(BITS).decode(), bits)
+    unknown, bits = (peeling.text_of(it[:columns], z)[info.start : info.stop] for it in (found.unknown, found.ones))
+    once, twice = digits((bits.encode(), unknown.encode()))
+    return (once + 2 * twice).to_bytes(len(bits), "big").translate(BITS).decode()
 
 
 @functools.lru_cache(1024)
@@ -71,7 +61,12 @@ class Receiver:
         self.processes: dict[int, Process] = {}
         self.last: Arrival | None = None
         self.faulty = False
-        self.found: list[peeling.Peeled] = []
+        self.found: list[peeling.Peeler] = []
+
+    @property
+    def clauses(self) -> Clauses:
+        """The steps of an encoder, with the mistakes that it has too."""
+        return steps.clauses(self.shared)
 
     @property
     def clash(self) -> bool:
@@ -94,6 +89,17 @@ class Receiver:
         process.lengths = lengths
         self.combine(sizes, told, process, self.heard(values))
         return self.decided(sizes, told, process, self.decoded_all(sizes, told, process))
+
+    def answers(self, case: Case, level: Level = MODEL) -> typing.Iterator[Answer]:
+        """What is answered to each transmission of a case."""
+        for told, values in zip(case.arrivals, case.values):
+            yield self.take(told, octets_of(values, level))
+
+    def depths(self, told: Arrival) -> list[tuple[int, int] | None]:
+        """In how many rounds, and passes over layers, each code block is found after a transmission that was taken."""
+        sizes = self.sizes(told, told)
+        return [peeling.depth(self.rows(sizes), *self.columns(sizes, told, soft), sizes.k)
+                for soft in self.processes[told.process].soft or []]
 
     # HARQ processes.
 
@@ -126,7 +132,7 @@ class Receiver:
     def buffer(self, sizes: steps.Sizes, told: Arrival) -> int:
         """Ncb (5.4.2.1)."""
         _, length = self.window(sizes)
-        return steps.buffer_length(sizes, length, told.lbrm, len(told.scheduled(sizes.c)), self.shared)
+        return self.clauses.buffer_length(sizes, length, told.lbrm, max(len(told.scheduled(sizes.c)), 1))
 
     def version(self, told: Arrival, first: Arrival) -> int:
         """The redundancy version."""
@@ -134,7 +140,7 @@ class Receiver:
 
     def start(self, sizes: steps.Sizes, ncb: int, version: int) -> int:
         """k0 (Table 5.4.2.1-2)."""
-        return steps.start(sizes, ncb, version, self.shared)
+        return self.clauses.start(sizes, ncb, version)
 
     # Rate recovery.
 
@@ -144,7 +150,7 @@ class Receiver:
 
     def lengths(self, sizes: steps.Sizes, told: Arrival, first: Arrival) -> list[int]:
         """E_r of each code block (5.4.2.1)."""
-        return steps.lengths(sizes, told, self.shared)
+        return [*steps.lengths(sizes.c, told, self.shared)]
 
     def order(self, sizes: steps.Sizes) -> typing.Iterable[int]:
         """In which order the parts of the code blocks arrive (5.5)."""
@@ -179,7 +185,7 @@ class Receiver:
 
     def selected(self, ring: range, skipped: range, k0: int, ncb: int, count: int) -> steps.Places:
         """The places in the order in which they are read, of a d in these places of the codeword (5.4.2.1)."""
-        return steps.selected(ring, skipped, k0, ncb, count, self.shared)
+        return steps.selected(ring, skipped, k0, ncb, count, steps.among(self.shared, SELECTING, "selection"))
 
     def gathered(self, places: steps.Places, values: bytes, size: int) -> Soft:
         """One transmission's values at the places of a codeword."""
@@ -215,6 +221,11 @@ class Receiver:
         """Digits that say which bits of a codeword are given, and which of them are ones: fillers are zeros (5.3.2)."""
         return given(soft, sizes.filled)
 
+    def columns(self, sizes: steps.Sizes, told: Arrival, soft: Soft) -> tuple[tuple[int, ...], tuple[int, ...]]:
+        """The columns of these digits."""
+        known, ones = self.given(sizes, told, soft)
+        return peeling.columns_of(known, sizes.z), peeling.columns_of(ones, sizes.z)
+
     def rows(self, sizes: steps.Sizes) -> peeling.Rows:
         """The parity rows (5.3.2)."""
         return self.tables.rows(sizes, self.shared)
@@ -231,16 +242,15 @@ class Receiver:
         """The first column that the rows fix."""
         return 0
 
-    def decoded(self, sizes: steps.Sizes, told: Arrival, process: Process, soft: Soft) -> Decoded:
-        """The information bits of a code block."""
-        known, ones = (peeling.columns_of(text, sizes.z) for text in self.given(sizes, told, soft))
-        used = self.rows_used(sizes, process)
-        found = peeling.peeled(self.rows(sizes), used, known, ones, self.iterations(), self.fixed_from())
+    def decoded(self, sizes: steps.Sizes, told: Arrival, process: Process, soft: Soft) -> str:
+        """The information bits of a code block, `?` for one that is not known."""
+        used, given = self.rows_used(sizes, process), self.columns(sizes, told, soft)
+        found = peeling.peeled(self.rows(sizes), used, *given, self.iterations(), self.fixed_from())
         self.found.append(found)
         return information(found, sizes.z, sizes.info)
 
-    def decoded_all(self, sizes: steps.Sizes, told: Arrival, process: Process) -> list[Decoded]:
-        """The information bits of all code blocks."""
+    def decoded_all(self, sizes: steps.Sizes, told: Arrival, process: Process) -> list[str]:
+        """The same of all code blocks."""
         return [self.decoded(sizes, told, process, soft) for soft in process.soft or []]
 
     # The decision.
@@ -255,7 +265,12 @@ class Receiver:
 
     def fits_block(self, sizes: steps.Sizes, a: str, rest: str, texts: list[str]) -> bool:
         """Whether the CRC of the transport block fits (6.2.1, 7.2.1)."""
-        return steps.fits_block(sizes, a, rest, texts, self.shared)
+        if len(a) < sizes.a:
+            return False
+        block = steps.attached(a, self.shared)
+        if "crc-after-segmentation" in self.shared and sizes.c > 1:
+            return self.clauses.code_blocks(block, sizes) == texts
+        return block[sizes.a :] == rest
 
     def good(self, sizes: steps.Sizes, passed: list[bool], lengths: list[int], fits: bool) -> bool:
         """Whether a block is handed up, of which these code blocks passed and whose own CRC fits or does not."""
@@ -273,16 +288,15 @@ class Receiver:
         """What is handed up of what was decided now."""
         return bits
 
-    def decided(self, sizes: steps.Sizes, told: Arrival, process: Process, decoded: list[Decoded]) -> Answer:
-        """The decision on a block."""
-        passed = [self.is_known(it.info) and self.fits_code_block(sizes, it.bits) for it in decoded]
-        texts = [it.bits for it in decoded]
+    def decided(self, sizes: steps.Sizes, told: Arrival, process: Process, decoded: list[str]) -> Answer:
+        texts = [it.replace("?", "0") for it in decoded]
+        passed = [self.is_known(info) and self.fits_code_block(sizes, bits) for info, bits in zip(decoded, texts)]
         joined = self.joined(sizes, texts)
         a, rest = joined[: sizes.a], joined[sizes.a : sizes.b]
         good = self.good(sizes, passed, process.lengths, self.fits_block(sizes, a, rest, texts))
         process.delivered = self.answered(process, a if good else None)
         soft = process.soft or [empty(sizes.size)] * sizes.c
-        return Answer(process.delivered, "".join("1" if it else "0" for it in passed), tuple(it.info for it in decoded),
+        return Answer(process.delivered, "".join("1" if it else "0" for it in passed), tuple(decoded),
                       tuple(self.shown(sizes, it) for it in soft))
 
     def shown(self, sizes: steps.Sizes, soft: Soft) -> str:

@@ -1,4 +1,4 @@
-"""The words of `tools/conform receiver`."""
+"""The words of `tools/conform receiver`, and what they list of a suite."""
 
 from __future__ import annotations
 
@@ -8,18 +8,18 @@ import gc
 import typing
 
 from linksim_tools.common.command_line import write
+from linksim_tools.common.message import shown
 from linksim_tools.common.program import Failed, add_program, program_at
-from linksim_tools.conform import page
+from linksim_tools.conform import bits, page
 from linksim_tools.conform.commands import Words, chosen, command_of, number_in, reported, written
 from linksim_tools.conform.receiver import answers as answering
-from linksim_tools.conform.receiver import report
+from linksim_tools.conform.receiver import doubts, known_answers, report
 from linksim_tools.conform.receiver import suite as suites
-from linksim_tools.conform.receiver.level import Level
+from linksim_tools.conform.receiver.chain import Receiver
+from linksim_tools.conform.receiver.diagnosis import Diagnosis
+from linksim_tools.conform.receiver.mistakes import DOUBT, MISTAKES, STEPS
+from linksim_tools.conform.receiver.reception import Level
 from linksim_tools.conform.report import record_of
-
-# What a command alone needs is loaded where it is: `check` is to be done at once.
-if typing.TYPE_CHECKING:
-    from linksim_tools.conform.receiver import run
 
 EXAMPLES = """
 examples:
@@ -34,40 +34,75 @@ TITLE = "Conformance of a receiver with TS 38.212"
 ABOUT = f"{TITLE}: a suite of cases, and a check that names the mistake."
 
 
-def manner_of(given: argparse.Namespace) -> run.Manner:
-    """How a receiver is asked."""
-    from linksim_tools.conform.receiver import run
+def manner_of(given: argparse.Namespace) -> answering.Manner:
     level = Level(1, given.bits, given.positive)
     level = dataclasses.replace(level, strong=given.level or min(16, level.largest))
     for strong in (level.strong, *(getattr(given, "levels", None) or ())):
         if strong > level.largest:
             raise Failed(f"--level {strong} is not a value of --bits {level.bits}: the largest is {level.largest}")
     more = {name: getattr(given, name) for name in ("plain", "seconds", "restart", "skip") if hasattr(given, name)}
-    return run.Manner(level, **{"plain": True, **more})
+    return answering.Manner(level, **{"plain": True, **more})
 
 
 def suite_lines(program: str | None, *words: typing.Any) -> list[str]:
-    """The lines of a suite."""
+    """The lines of a suite. What they alone need is loaded here: `check` is to be done at once."""
     from linksim_tools.conform.receiver import writing
     return writing.written(program_at(program), *words)
 
 
-def lines(listed: str, *names: str) -> typing.Callable[[argparse.Namespace], None]:
+def show(suite: suites.Suite, name: str, manner: answering.Manner) -> typing.Iterator[str]:
+    """One case: its lines, and after each what is right and what the program proves."""
+    if name not in suite.cases:
+        raise Failed(f"{suite.path} has no case {shown(name)}")
+    kept = suite.cases[name]
+    yield f"# {name}: {kept.case.what}"
+    for line, answer, proved in zip(answering.lines_of(kept.case, manner), Receiver(suite.tables).answers(kept.case), kept.proved):
+        yield line
+        block = known_answers.NONE if answer.delivered is None else bits.hexadecimal(answer.delivered)
+        yield f"# right: delivered {block} passed {answer.passed}; the program proves: {proved}"
+
+
+def plain(suite: suites.Suite, manner: answering.Manner) -> typing.Iterator[str]:
+    for kept in suite.cases.values():
+        if manner.level.asks(kept.case):
+            yield from answering.lines_of(kept.case, manner)
+
+
+def shows(kept: suites.Kept, name: str) -> bool:
+    return kept.known and known_answers.blocks(kept.answers(name)[0]) != known_answers.blocks(kept.right)
+
+
+def mistakes(suite: suites.Suite) -> typing.Iterator[str]:
+    """A line for each mistake: how many cases show it, its step, name and clause, and which mistakes have the same blocks."""
+    known = [kept for kept in suite.cases.values() if kept.known]
+    found = {name: tuple(known_answers.blocks(kept.answers(name)[0]) for kept in known) for name in MISTAKES}
+    for name, mistake in MISTAKES.items():
+        count = sum(shows(kept, name) for kept in known)
+        same = [other for other in MISTAKES if other != name and count and found[other] == found[name]]
+        alike = f" (the same blocks as {', '.join(same)})" if same else ""
+        yield f"{count:5} {STEPS[mistake.step]:27} {name} ({mistake.clause}): {mistake.wrong}{alike}"
+
+
+def points(suite: suites.Suite) -> typing.Iterator[str]:
+    """A line for each case: how many transmissions and values it has, how many mistakes it shows, its step, and what it is for."""
+    yield f"{'case':36} {'tx':>3} {'values':>8} {'shows':>6} step"
+    for name, kept in suite.cases.items():
+        count = sum(shows(kept, mistake) for mistake in MISTAKES)
+        step = STEPS.get(kept.case.step, DOUBT)
+        what = f": {kept.case.what}" if kept.case.what else ""
+        yield f"{name:36} {len(kept.case.arrivals):3} {kept.case.size:8} {count:6} {step}{what}"
+
+
+def lines(listed: typing.Callable[..., typing.Iterable[str]], *names: str) -> typing.Callable[[argparse.Namespace], None]:
     """Writes the lines of a suite, as this function of the listing has them."""
-
-    def listing_of(given: argparse.Namespace) -> None:
-        from linksim_tools.conform.receiver import listing
-        more = [manner_of(given) if name == "manner" else getattr(given, name) for name in names]
-        write(getattr(listing, listed)(suites.read(given.suite), *more), given.out)
-
-    return listing_of
+    return lambda given: write(listed(suites.read(given.suite), *(
+        manner_of(given) if name == "manner" else getattr(given, name) for name in names)), given.out)
 
 
 def judged(given: argparse.Namespace, suite: suites.Suite, answers: answering.Answers, troubles: list[str], notes: list[str],
            words: list[str], levels: typing.Sequence[str] = ()) -> int:
     """Writes the report of these answers, and says the status."""
-    record = record_of(words, suite)
-    made = report.report(suite, answers, troubles, notes, record)
+    made = report.report(suite, answers, troubles, notes, record_of(words, suite))
     made.levels += levels
     return reported(given, made, report.text(made), page.document(TITLE, page.of_report(made, report.text(made))))
 
@@ -84,24 +119,22 @@ def check(given: argparse.Namespace) -> int:
 
 def go(given: argparse.Namespace) -> int:
     """Runs a receiver and judges what it answers."""
-    from linksim_tools.conform.receiver import ladder, run
     command, manner, suite = command_of(given), manner_of(given), chosen(suites.read(given.suite), given.only)
     levels = sorted(dataclasses.replace(manner.level, strong=it) for it in given.levels or ())
     if not levels:
-        return judged(given, suite, *run.answers(command, suite, manner), command)
+        return judged(given, suite, *answering.asked(command, suite, manner), command)
     found: dict[Level, tuple[answering.Answers, list[str], list[str]]] = {}
     for level in levels:
-        if not run.Run.interrupted:
-            found[level] = run.answers(command, suite, dataclasses.replace(manner, level=level))
-    failing = {level: ladder.failing(suite, it[0]) for level, it in found.items()}
+        if not answering.Run.interrupted:
+            found[level] = answering.asked(command, suite, dataclasses.replace(manner, level=level))
+    failing = {level: Diagnosis(suite, it[0]).failing for level, it in found.items()}
     # The report is on the first level with trouble, or at which something fails.
     first = next((it for it in levels if found[it][1] or failing[it]), levels[0])
     whole = set(suite.cases).intersection(*({name for name, it in there.items() if None not in it} for there, *_ in found.values()))
-    return judged(given, suite, *found[first], command, ladder.lines(suite, failing, whole))
+    return judged(given, suite, *found[first], command, doubts.of_levels(suite, failing, whole))
 
 
 def levels_of(text: str) -> list[int]:
-    """Strong values, parted by commas."""
     return [int(it) for it in map(number_in(1, 1 << 15, int), text.split(","))]
 
 
@@ -114,7 +147,6 @@ def add_level(command: argparse.ArgumentParser) -> None:
 
 
 def options() -> argparse.ArgumentParser:
-    """The command line's parser."""
     words = Words(ABOUT, EXAMPLES, "receiver")
     made, _ = words.add_suite(written(suite_lines, "program", "table", "profile", "seed"))
     add_program(made)
@@ -122,11 +154,11 @@ def options() -> argparse.ArgumentParser:
     asks.add_argument("--restart", action="store_true", help="starts the command anew for each case, and writes no `reset`")
     asks.add_argument("--levels", type=levels_of, metavar="N,..",
                       help="runs it at each of these strong values, and tells them together")
-    writes = words.add("plain", lines("plain", "manner"), "writes the cases as lines of plain words", "--level 8")
-    shows = words.add("show", lines("show", "id", "manner"), "writes one case, and what is right of it", "nothing-24")
+    writes = words.add("plain", lines(plain, "manner"), "writes the cases as lines of plain words", "--level 8")
+    shows = words.add("show", lines(show, "id", "manner"), "writes one case, and what is right of it", "nothing-24")
     shows.add_argument("id", metavar="ID", help="the id of the case")
-    words.add("mistakes", lines("mistakes"), "writes the known mistakes, each with the number of cases that show it")
-    words.add("points", lines("points"), "writes what each case is for, and how many mistakes it shows")
+    words.add("mistakes", lines(mistakes), "writes the known mistakes, each with the number of cases that show it")
+    words.add("points", lines(points), "writes what each case is for, and how many mistakes it shows")
     for command in (asks, writes, shows):
         add_level(command)
     return words.parser

@@ -8,11 +8,10 @@ import sys
 import typing
 
 from linksim_tools.conform.encoder.points import first_sizes
-from linksim_tools.conform.receiver import mirrors, peeling, plain, rows, special, steps
+from linksim_tools.conform.receiver import mirrors, plain, special, steps
 from linksim_tools.conform.receiver.chain import Receiver
-from linksim_tools.conform.receiver.level import octets_of
 from linksim_tools.conform.receiver.blocks import Maker, sized
-from linksim_tools.conform.receiver.reception import Case
+from linksim_tools.conform.receiver.reception import Arrival, Case
 
 Item = typing.TypeVar("Item")
 
@@ -25,10 +24,9 @@ a8-rv1-limit47 even, a8-rv1-limit47 early, a8-rv1-limit47 parity, a8-other-qm la
 a8-rv0-limit55 even, a8-rv2-limit61 late, a8-rv3-limit73 extension, a8-long-short last, a24-rv0-limit55 even,
 a296-rv2-limit61 early, a296-other-qm early, a296-rv1-limit47 parity, a336-other-qm even, a336-rv3-twice second-copy,
 a288-rv0 parity, a296-1372-rv0 parity, a184-rv0 early, a176-rv0 early, a552-rv0 early, a1400-rv0 even, a3824-rv0 parity,
-a3816-rv0 early, a296-rv1 even, a24-qm6 even, a24-rv0-limit55-twice last,
-three-uneven early, two-uneven early, two-limit-twice even, two-nl3 early, three-nl3 even, three-nl4 early, four-then-013 early,
-four-nl3 even, three-one-over early, a296-rv1 late, a296-rv2 even, a296-rv3 early, a8-rv1 even, a8-rv3 even, a24-rv2 early,
-two-of-1-rv0 parity, three-then-12 even,
+a3816-rv0 early, a296-rv1 even, a24-qm6 even, a24-rv0-limit55-twice last, three-uneven early, two-uneven early,
+two-limit-twice even, two-nl3 early, three-nl3 even, three-nl4 early, four-then-013 early, four-nl3 even, three-one-over early,
+a296-rv1 late, a296-rv2 even, a296-rv3 early, a8-rv1 even, a8-rv3 even, a24-rv2 early, two-of-1-rv0 parity, three-then-12 even,
 three-limit-then-12 last, three-then-02 extension, two-other-qm even, two-no-filler even, two-rate-511 early
 """
 # How many rounds the rungs of the ladder take.
@@ -38,47 +36,34 @@ LADDER = ((9, 11), (12, 16), (17, 24))
 LONGEST = (("longest-156", 1_310_688, 2048, 0.6), ("longest-344", 1_310_616, 512, 0.24))
 
 
-def patterns(make: Maker, text: str) -> typing.Iterator[Case]:
-    """The cases of these patterns."""
-    known = dict(plain.configurations())
-    for word in text.replace("\n", " ").strip().split(","):
-        name, wanted = word.split()
-        yield from plain.plain(make, name, known[name], wanted)
-
-
 def quick(make: Maker) -> typing.Iterator[Case]:
-    """The cases of the profile `quick`."""
     yield from special.cases(make)
     yield from plain.ladder(make, LADDER)
-    yield from patterns(make, QUICK)
+    known = dict(plain.configurations())
+    for name, wanted in (it.split() for it in QUICK.split(",")):
+        yield from plain.plain(make, name, known[name], wanted)
     yield from mirrors.all_of(make)
-    yield from rows.cases(make)
+    yield from plain.of_rows(make)
 
 
-def of_sizes(make: Maker) -> typing.Iterator[Case]:
-    """A case for each lifting size that a block reaches."""
+def further() -> typing.Iterator[tuple[str, list[Arrival], str]]:
+    """What `full` has more: all transmissions by several columns, a case for each lifting size that a block reaches, cases of 3 to
+    10 code blocks, and the longest blocks."""
+    for name, arrivals in plain.configurations():
+        yield from ((name, arrivals, wanted) for wanted in ("early", "late", "even"))
     for turn, ((graph, z), (smallest, largest, rate)) in enumerate(first_sizes().items()):
         a, wanted = (largest, smallest)[turn % 2], plain.OTHERWISE[turn % 3]
-        yield from plain.plain(make, f"lifting-{graph}-{z}", sized(a, rate, [0], 0.9, qm=(1, 2, 4, 6, 8)[turn % 5]), wanted)
-
-
-def of_many_code_blocks(make: Maker) -> typing.Iterator[Case]:
-    """Cases of 3 to 10 code blocks, and the longest blocks."""
+        yield f"lifting-{graph}-{z}", sized(a, rate, [0], 0.9, qm=(1, 2, 4, 6, 8)[turn % 5]), wanted
     for count in range(3, 11):
-        arrivals = sized(3656 * count - 24, 512, [count % 4], 0.95, qm=2, over=count // 2)
-        yield from plain.plain(make, f"code-blocks-{count}", arrivals, "early")
+        yield f"code-blocks-{count}", sized(3656 * count - 24, 512, [count % 4], 0.95, qm=2, over=count // 2), "early"
     for name, a, rate, part in LONGEST:
-        yield from plain.plain(make, name, sized(a, rate, [0], part), "early")
+        yield name, sized(a, rate, [0], part), "early"
 
 
 def full(make: Maker) -> typing.Iterator[Case]:
-    """The cases of the profile `full`, some of which `quick` has too."""
     yield from quick(make)
-    for name, arrivals in plain.configurations():
-        for wanted in ("early", "late", "even"):
-            yield from plain.plain(make, name, arrivals, wanted)
-    yield from of_sizes(make)
-    yield from of_many_code_blocks(make)
+    for name, arrivals, wanted in further():
+        yield from plain.plain(make, name, arrivals, wanted)
 
 
 def counted(items: typing.Iterable[Item], words: str, is_told: bool) -> typing.Iterator[Item]:
@@ -93,18 +78,11 @@ def with_depth(tables: steps.Tables, case: Case) -> Case:
     """A case with the rounds that its last transmission takes of the deepest code block, if it is delivered."""
     if case.rounds is not None:
         return case
-    receiver = Receiver(tables)
-    answer = [receiver.take(told, octets_of(text)) for told, text in zip(case.arrivals, case.values)][-1]
-    told = case.arrivals[-1]
-    soft = receiver.processes[told.process].soft or []
-    if answer.delivered is None or len(soft) > 10:
+    receiver, told = Receiver(tables), case.arrivals[-1]
+    *_, answer = receiver.answers(case)
+    if answer.delivered is None or len(receiver.processes[told.process].soft or []) > 10:
         return case
-    sizes = receiver.sizes(told, told)
-    found = []
-    for it in soft:
-        known, ones = (peeling.columns_of(text, sizes.z) for text in receiver.given(sizes, told, it))
-        found.append(peeling.depth(receiver.rows(sizes), known, ones, sizes.k) or (0, 0))
-    return dataclasses.replace(case, rounds=max(found))
+    return dataclasses.replace(case, rounds=max(it or (0, 0) for it in receiver.depths(told)))
 
 
 def designed(tables: steps.Tables, profile: str, seed: int) -> tuple[list[Case], list[str]]:

@@ -3,12 +3,13 @@ It also says how many iterations a receiver makes."""
 
 from __future__ import annotations
 
-import dataclasses
+import functools
 import typing
 
 from linksim_tools.conform.receiver import elimination, known_answers, steps
 
 if typing.TYPE_CHECKING:
+    from linksim_tools.conform.files import Object
     from linksim_tools.conform.receiver.answers import Answers
     from linksim_tools.conform.receiver.chain import Receiver
     from linksim_tools.conform.receiver.known_answers import Shown
@@ -23,21 +24,22 @@ SURE, CLASH = 10, 1
 # How far these come differs from decoder to decoder: which code blocks pass and which bits are known is not held to them.
 UNSURE = frozenset(["iterations-2", "iterations-4", "iterations-8"])
 
-Words = typing.List[typing.Optional[typing.Tuple[typing.Optional[str], ...]]]
+# What was answered to a transmission, a word a level.
+Word = typing.Tuple[typing.Optional[str], ...]
 
 
-def words_of(answer: Answer | None, meant: str, told: Arrival) -> tuple[str | None, ...] | None:
+def words_of(answer: Answer | None, meant: str, told: Arrival) -> Word | None:
     """An answer as a suite keeps it; None if a level was not answered. If a single code block fails, `0` is none: it may say that
     the CRC of the block fails."""
     if answer is None:
         return None
     shown = known_answers.shown(answer, meant, told)
-    says = answer.passed != "0" or answer.delivered is not None or steps.sizes(told.a, told.rate2048, steps.RIGHT).c > 1
+    says = answer.passed != "0" or answer.delivered is not None or steps.sizes(told.a, told.rate2048).c > 1
     there = (True, answer.passed is not None and says, answer.info is not None, answer.soft is not None)
     return tuple(word if given else None for word, given in zip(shown, there))
 
 
-def agrees_once(wanted: tuple[str, ...], word: tuple[str | None, ...] | None, levels: typing.Collection[int],
+def agrees_once(wanted: tuple[str, ...], word: Word | None, levels: typing.Collection[int],
                 also: typing.Sequence[tuple[str, str]]) -> bool:
     """Whether what was answered at these levels to a transmission is this, or is accepted `also`. That is of receivers that keep
     what has passed, and may leave their soft values as they are then."""
@@ -63,6 +65,11 @@ class Diagnosis:
         names = sorted(self.words, key=lambda name: (suite.cases[name].case.size, name))
         self.judged = [name for name in names if suite.cases[name].known and not self.is_doubt(name)]
 
+    @functools.cached_property
+    def failing(self) -> list[str]:
+        """The cases that are judged and fail, small ones first."""
+        return [name for name in self.judged if self.fails(name)]
+
     def accepted(self, name: str, answers: typing.Sequence[Answer | None]) -> list[list[tuple[str, str]]]:
         """What is accepted of each transmission beside what peeling finds. It is what receivers that keep something answer, and
         what more is fixed by elimination. After a delivery nothing but a wrong block is wrong: the buffer may be freed, and a block
@@ -70,7 +77,8 @@ class Diagnosis:
         kept, words = self.suite.cases[name], self.words[name]
         found = [list(it) for it in kept.also or [()] * len(words)]
         more = [False] * len(words)
-        if any(word and self.differs(word, right) for word, right in zip(words, kept.right)) and kept.known:
+        if kept.known and any(
+                one not in (None, other) for right, word in self.answered([name]) for one, other in zip(word[:3], right)):
             more = elimination.accepted(self.suite.tables, kept.case, answers)
         delivered: set[int] = set()
         for told, word, right, also, is_more in zip(kept.case.arrivals, words, kept.right, found, more):
@@ -84,33 +92,29 @@ class Diagnosis:
             self.more.append(name)
         return found
 
-    @staticmethod
-    def differs(word: tuple[str | None, ...], right: tuple[str, ...]) -> bool:
-        """Whether something is answered that is not what peeling finds, soft values aside."""
-        return any(one not in (None, other) for one, other in zip(word[:3], right))
+    def answered(self, names: typing.Iterable[str]) -> typing.Iterator[tuple[tuple[str, ...], Word]]:
+        """What is right and what was answered, of each transmission of these cases that was answered."""
+        return ((right, word) for name in names for right, word in zip(self.suite.cases[name].right, self.words[name]) if word)
 
     def is_doubt(self, name: str) -> bool:
         """Whether a case is one that a right receiver may fail."""
         return self.suite.cases[name].case.step not in known_answers.STEPS_OF_CHAIN
 
-    def levels(self, clash: bool) -> tuple[int, ...]:
-        """The levels at which a case is judged: what contradicts itself is judged by blocks alone."""
-        return (0,) if clash else tuple(LEVELS)
-
-    def fits(self, name: str) -> list[bool]:
-        """Whether what was answered to each transmission of a case is right."""
-        kept = self.suite.cases[name]
-        each = zip(kept.right, self.words[name], self.also[name])
-        return [agrees_once(right, word, self.levels(kept.clash), also) for right, word, also in each]
-
-    def fails(self, name: str) -> bool:
-        """Whether something that was answered to a case is not right."""
-        return not all(self.fits(name))
+    def agreeing(self, answers: Shown, name: str, levels: typing.Collection[int]) -> typing.Iterator[bool]:
+        """Whether these answers to each transmission of a case are what was answered at these levels."""
+        return (agrees_once(answer, word, levels, also) for answer, word, also in zip(answers, self.words[name], self.also[name]))
 
     def agrees(self, answers: Shown, name: str, levels: typing.Collection[int] = (0,)) -> bool:
         """Whether these answers to a case have the blocks that were answered, or what was answered at other levels."""
-        each = zip(answers, self.words[name], self.also[name])
-        return all(agrees_once(answer, word, levels, also) for answer, word, also in each)
+        return all(self.agreeing(answers, name, levels))
+
+    def fits(self, name: str) -> list[bool]:
+        """Whether what was answered to each transmission of a case is right. What contradicts itself is judged by blocks alone."""
+        kept = self.suite.cases[name]
+        return [*self.agreeing(kept.right, name, LEVELS[: 1 if kept.clash else None])]
+
+    def fails(self, name: str) -> bool:
+        return not all(self.fits(name))
 
     def given_by(self, made: type[Receiver], name: str) -> bool:
         """Whether such a receiver gives what was answered to a case. It is not asked on after another block."""
@@ -121,10 +125,9 @@ class Diagnosis:
             if not agrees_once((known_answers.block(answer, meant),), word, (0,), also):
                 return False
         shown = tuple(map(known_answers.shown, answers, kept.case.meant, kept.case.arrivals))
-        return self.agrees(shown, name, self.levels(receiver.clash))
+        return self.agrees(shown, name, LEVELS[: 1 if receiver.clash else None])
 
     def is_whole(self, name: str) -> bool:
-        """Whether all transmissions of a case were answered."""
         return all(it is not None for it in self.words.get(name, [None]))
 
     def cost(self, mistake: str, levels: typing.Collection[int], names: typing.Sequence[str] = ()) -> int:
@@ -143,26 +146,25 @@ class Diagnosis:
             self.costs_of[key] = {it: 0 if given[answers] else CLASH if clash else SURE for it, (answers, clash) in every.items()}
         return self.costs_of[key]
 
-    def least(self, names: list[str], levels: typing.Collection[int]) -> tuple[int, list[str]]:
-        """The least cost of these mistakes, and which have it."""
-        costs = {name: self.cost(name, levels) for name in names}
+    def least(self, mistakes: typing.Iterable[str], levels: typing.Collection[int], names: typing.Sequence[str] = ()) -> list[str]:
+        """Those of these mistakes that cost least."""
+        costs = {mistake: self.cost(mistake, levels, names) for mistake in mistakes}
         least = min(costs.values())
-        return least, [name for name, cost in costs.items() if cost == least]
+        return [mistake for mistake, cost in costs.items() if cost == least]
 
     def against(self, mistake: str) -> list[str]:
         """The cases whose blocks a mistake does not give."""
         cases = self.suite.cases
         return [it for it in self.judged if not self.agrees(cases[it].answers(mistake)[0], it)]
 
-    def contradiction(self, mistake: str) -> tuple[str, str] | None:
-        """The first level, and the case, of what was answered that a mistake does not give, though its case is a sure one."""
-        for level in LEVELS[1:]:
-            for name in self.judged:
-                answers, clash = self.suite.cases[name].answers(mistake)
-                sure = not clash and not (mistake in UNSURE and level < LEVELS[-1])
-                if sure and self.agrees(answers, name) and not self.agrees(answers, name, [level]):
-                    return known_answers.LEVELS[level], name
-        return None
+    def contradicts(self, mistake: str) -> bool:
+        """Whether something was answered beside a block that a mistake does not give, though its case is a sure one."""
+        for name in self.judged:
+            answers, clash = self.suite.cases[name].answers(mistake)
+            levels = LEVELS[-1:] if mistake in UNSURE else LEVELS[1:]
+            if not clash and self.agrees(answers, name) and not all(self.agrees(answers, name, [level]) for level in levels):
+                return True
+        return False
 
     def shows(self, mistake: str) -> bool:
         """Whether something was answered that this mistake gives and a right receiver does not, beside losses. That is a
@@ -180,22 +182,21 @@ class Diagnosis:
 
     def due(self) -> list[str | None]:
         """What is delivered of each block that is due."""
-        return [word[0] for name in self.judged for right, word in zip(self.suite.cases[name].right, self.words[name])
-                if word is not None and right[0] == known_answers.MEANT]
+        return [word[0] for right, word in self.answered(self.judged) if right[0] == known_answers.MEANT]
 
     def delivers(self, mirror: str) -> bool:
         """Whether a mirror is delivered as a receiver with its mistake does."""
         kept = self.suite.cases[mirror]
-        pairs = zip(kept.answers(kept.case.mirror)[0], kept.right, self.words[mirror])
-        return any(word is not None and word[0] == wrong[0] != right[0] and wrong[0] != known_answers.NONE for wrong, right, word in pairs)
+        wrong = zip(kept.answers(kept.case.mirror)[0], kept.right, self.words[mirror])
+        return any(word and word[0] == block != right and block != known_answers.NONE for (block, *_), (right, *_), word in wrong)
 
     def tells(self, failing: list[str]) -> bool:
         """Whether these cases show more than losses: a wrong block, or information bits or soft values that are not right."""
-        for name in failing:
-            for right, word in zip(self.suite.cases[name].right, self.words[name]):
-                if word is not None and (word[0] not in (known_answers.NONE, right[0]) or word[2] is not None or word[3] is not None):
-                    return True
-        return False
+        return self.delivers_wrong(failing) or any(word[2] is not None or word[3] is not None for _, word in self.answered(failing))
+
+    def delivers_wrong(self, names: typing.Iterable[str]) -> bool:
+        """Whether a block is delivered in one of these cases that is not due."""
+        return any(word[0] not in (known_answers.NONE, right[0]) for right, word in self.answered(names))
 
     def apart(self, names: list[str]) -> str | None:
         """The first level that was not answered at which some case tells these mistakes apart."""
@@ -207,19 +208,9 @@ class Diagnosis:
         return None
 
 
-@dataclasses.dataclass(frozen=True)
-class Iterations:
-    """The deepest pattern up to which all were delivered, and the deepest that was: rounds of flooding, and of layers. Of how
-    many patterns this is known, and whether some deeper one was not delivered."""
-
-    all_up_to: tuple[int, int] | None
-    delivered: tuple[int, int]
-    known: int
-    is_limited: bool
-
-
-def iterations(of: Diagnosis) -> Iterations | None:
-    """How many iterations a receiver is seen to make."""
+def iterations(of: Diagnosis) -> Object | None:
+    """How many iterations a receiver is seen to make, as JSON has it: the deepest pattern up to which all were delivered, and the
+    deepest that was, in rounds of flooding and of layers; of how many this is known, and whether a deeper one was lost."""
     depths: list[tuple[tuple[int, int], bool]] = []
     for name, words in of.words.items():
         kept = of.suite.cases[name]
@@ -230,4 +221,5 @@ def iterations(of: Diagnosis) -> Iterations | None:
     if not there:
         return None
     below = [it for it in there if not lacking or it < min(lacking)]
-    return Iterations(max(below, default=None), max(there), len(depths), max(lacking, default=(0, 0)) > max(there))
+    return {"all_up_to": max(below, default=None), "delivered": max(there), "known": len(depths),
+            "is_limited": max(lacking, default=(0, 0)) > max(there)}

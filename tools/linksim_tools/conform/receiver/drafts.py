@@ -3,9 +3,11 @@ whole columns on the base graph: a column is known or not."""
 
 from __future__ import annotations
 
+import collections
 import dataclasses
 import functools
 import itertools
+import math
 import random
 import typing
 
@@ -21,7 +23,21 @@ Group = typing.Tuple[int, int, int]
 # column, and the copy.
 Wanted = typing.Callable[[int, int, int], typing.Any]
 
+Item = typing.TypeVar("Item")
+
 ROUNDS, TRIES = 8, 60
+
+
+def best(items: typing.Iterable[Item], cost: typing.Callable[[Item], int | None], enough: float = -math.inf) -> Item | None:
+    """The first item that costs least, or that costs no more than is enough. What has no cost is left out."""
+    found: tuple[int, Item] | None = None
+    for item in items:
+        costs = cost(item)
+        if costs is not None and (found is None or costs < found[0]):
+            found = costs, item
+            if costs <= enough:
+                break
+    return found and found[1]
 
 
 @functools.lru_cache(None)
@@ -32,22 +48,10 @@ def octets(count: int, place: int) -> bytes:
 
 @dataclasses.dataclass(frozen=True)
 class Laid:
-    """Where the values of a code block stand: their numbers among all that arrives, their places in the codeword, and
-    which copy each is."""
+    """Where the values of a code block stand: their numbers among all that arrives, and their places in the codeword."""
 
     numbers: list[int]
     places: steps.Places
-    copies: list[int]
-
-
-def copies_of(places: steps.Places) -> list[int]:
-    """How often each place stood there before."""
-    seen: dict[int, int] = {}
-    found = []
-    for place in places:
-        found.append(seen.get(place, 0))
-        seen[place] = found[-1] + 1
-    return found
 
 
 def laid(receiver: Receiver, told: Arrival, first: Arrival) -> list[Laid]:
@@ -58,14 +62,14 @@ def laid(receiver: Receiver, told: Arrival, first: Arrival) -> list[Laid]:
     for low, middle, high in zip(*planes):
         numbers = [one + 256 * two + 65536 * three for one, two, three in zip(low, middle, high)]
         places = receiver.places(sizes, told, first, len(numbers)) if numbers else steps.NOWHERE
-        found.append(Laid(numbers, places, copies_of(places)))
+        found.append(Laid(numbers, places))
     return found
 
 
 def words(receiver: Receiver, told: Arrival, bits: str) -> list[str]:
     """The codewords of a block, as a sender with the same mistakes makes them."""
     wrong, sizes = receiver.shared, receiver.sizes(told, told)
-    parts = steps.code_blocks(sizes, steps.attached(bits, wrong), wrong)
+    parts = receiver.clauses.code_blocks(steps.attached(bits, wrong), sizes)
     if "joined-reversed" in wrong:
         parts = parts[::-1]
     return [receiver.tables.word(sizes, part, wrong) for part in parts]
@@ -75,8 +79,7 @@ class Columns:
     """The base graph of a draft as masks of columns."""
 
     def __init__(self, receiver: Receiver, sizes: steps.Sizes) -> None:
-        rows = receiver.rows(sizes).rows
-        self.rows = [sum({1 << column for column, _ in row}) for row in rows]
+        self.rows = receiver.rows(sizes).masks
         z = sizes.z
         self.fillers = [0] * (sizes.size // z)
         for place in sizes.filled:
@@ -96,14 +99,20 @@ class Columns:
             if known == before:
                 return known
 
+    def spread(self, known: int) -> typing.Iterator[tuple[int, set[int]]]:
+        """What is known after each round in which all rows see what was known before it, and which rows find a column first."""
+        while True:
+            lefts = [(number, row & ~known) for number, row in enumerate(self.rows)]
+            singles = {left: number for number, left in reversed(lefts) if left and not left & (left - 1)}
+            if not singles:
+                return
+            known |= sum(singles)
+            yield known, set(singles.values())
+
     def rounds(self, known: int) -> int:
         """In how many rounds these columns fix all information columns."""
-        for count in range(99):
-            if known & self.wanted == self.wanted:
-                return count
-            lefts = [row & ~known for row in self.rows]
-            known |= functools.reduce(lambda one, other: one | other, [it for it in lefts if it and not it & (it - 1)], 0)
-        return 99
+        after = itertools.chain([known], (known for known, _ in self.spread(known)))
+        return next((count for count, known in enumerate(after) if known & self.wanted == self.wanted), 99)
 
     def least(self, order: list[Group]) -> list[Group] | None:
         """Few of these columns that fix all information columns, the first ones rather; None if all do not."""
@@ -125,6 +134,18 @@ class Columns:
     def mask(self, groups: list[Group]) -> int:
         """The columns that are known of these groups."""
         return functools.reduce(lambda one, other: one | other, [1 << column for _, column, _ in groups], self.always)
+
+
+def fewest(found: typing.Iterable[list[Group]], columns: Columns, groups: dict[Group, list[int]], enough: int,
+           rounds: range | None) -> list[Group] | None:
+    """Those columns with the fewest values, in no more than ROUNDS rounds, or the first that take one of these numbers of them."""
+    def cost(kept: list[Group]) -> int | None:
+        count = columns.rounds(columns.mask(kept))
+        if rounds is not None:
+            return 0 if count in rounds else None
+        return sum(len(groups[it]) for it in kept) if count <= ROUNDS else None
+
+    return best(found, cost, enough)
 
 
 class Draft:
@@ -155,32 +176,38 @@ class Draft:
         """The whole columns that arrive of a code block, each with the numbers of its values."""
         z, found = self.sizes.z, {}
         there: dict[Group, dict[int, int]] = {}
-        for t, parts in enumerate(self.laid):
-            if r < len(parts):
-                for number, place, copy in zip(parts[r].numbers, parts[r].places, parts[r].copies):
-                    if place >= 0:
-                        there.setdefault((t, place // z, copy), {})[place] = number
+        copies: collections.Counter[tuple[int, int]] = collections.Counter()
+        for t, number, place in self.stand(r):
+            if place >= 0:
+                there.setdefault((t, place // z, copies[t, place]), {})[place] = number
+                copies[t, place] += 1
         for group, numbers in there.items():
             if len(numbers) == z - columns.fillers[group[1]]:
                 found[group] = list(numbers.values())
         return found
 
-    def critical(self, wanted: Wanted, seed: str, tries: int = TRIES) -> Draft | None:
-        """Keeps as little as fixes the block, what is wanted rather; None if whole columns do not fix it."""
+    def critical(self, wanted: Wanted, seed: str, tries: int = TRIES, rounds: range | None = None) -> Draft | None:
+        """Keeps as little as fixes the block, what is wanted rather, or what fixes it in one of these numbers of rounds; None if
+        whole columns do not."""
         columns = Columns(self.receiver, self.sizes)
         done: dict[tuple[Group, ...], list[Group] | None] = {}
         for r in range(self.sizes.c):
             groups = self.groups(r, columns)
             signature = tuple(sorted(groups))
             if signature not in done:
-                done[signature] = self.fewest(columns, groups, wanted, seed, tries)
-            best = done[signature]
-            if best is None:
+                found = self.searched(columns, groups, wanted, seed, tries)
+                done[signature] = fewest(found, columns, groups, len(self.sizes.info), rounds)
+            some = done[signature]
+            if some is None:
                 return None
-            for t, parts in enumerate(self.kept):
-                if r < len(parts):
-                    parts[r] = {number for group in best if group[0] == t for number in groups[group]}
+            self.keep(r, some, groups)
         return self
+
+    def keep(self, r: int, some: list[Group], groups: dict[Group, list[int]]) -> None:
+        """Keeps these columns alone of a code block."""
+        for t, parts in enumerate(self.kept):
+            if r < len(parts):
+                parts[r] = {number for group in some if group[0] == t for number in groups[group]}
 
     def searched(self, columns: Columns, groups: dict[Group, list[int]], wanted: Wanted, seed: str,
                  tries: int) -> typing.Iterator[list[Group]]:
@@ -198,26 +225,14 @@ class Draft:
                 return
             yield kept
 
-    def fewest(self, columns: Columns, groups: dict[Group, list[int]], wanted: Wanted, seed: str, tries: int) -> list[Group] | None:
-        """Those with the fewest values, in no more than ROUNDS rounds."""
-        best: tuple[tuple[bool, int], list[Group]] | None = None
-        for kept in self.searched(columns, groups, wanted, seed, tries):
-            cost = columns.rounds(columns.mask(kept)) > ROUNDS, sum(len(groups[it]) for it in kept)
-            if best is None or cost < best[0]:
-                best = cost, kept
-            if best[0] <= (False, len(self.sizes.info)):
-                break
-        return None if best is None or best[0][0] else best[1]
+    def stand(self, r: int) -> typing.Iterator[tuple[int, int, int]]:
+        """The transmission, the number and the place of each value of a code block."""
+        return ((t, number, place) for t, parts in enumerate(self.laid) for part in parts[r : r + 1]
+                for number, place in zip(part.numbers, part.places))
 
     def differing(self, other: Draft) -> list[set[tuple[int, int]]]:
         """The values, by transmission and number, that stand elsewhere in another draft of these transmissions, by code block."""
-        found: list[set[tuple[int, int]]] = []
-        for r in range(self.sizes.c):
-            pairs = [(t, mine[r], other.laid[t][r : r + 1]) for t, mine in enumerate(self.laid) if r < len(mine)]
-            there = {(t, number): place for t, _, its in pairs for it in its for number, place in zip(it.numbers, it.places)}
-            found.append({(t, number) for t, mine, _ in pairs for number, place in zip(mine.numbers, mine.places)
-                          if there.get((t, number)) != place})
-        return found
+        return [{(t, number) for t, number, _ in {*self.stand(r)} - {*other.stand(r)}} for r in range(self.sizes.c)]
 
     def thinned(self, most: int, needed: list[set[tuple[int, int]]]) -> bool:
         """Takes away what is more than there are information bits, a range of one column after another, as far as the rows still
@@ -225,10 +240,9 @@ class Draft:
         rows, sizes, z = self.receiver.rows(self.sizes), self.sizes, self.sizes.z
         for r in range(sizes.c):
             there: dict[int, list[tuple[int, int, int]]] = {}
-            for t, parts in enumerate(self.laid):
-                for number, place in zip(parts[r].numbers, parts[r].places) if r < len(parts) else ():
-                    if number in self.kept[t][r] and 0 <= place < sizes.size:
-                        there.setdefault(place // z, []).append((place, t, number))
+            for t, number, place in self.stand(r):
+                if number in self.kept[t][r] and 0 <= place < sizes.size:
+                    there.setdefault(place // z, []).append((place, t, number))
             known = peeling.columns_of("".join("01"[place in sizes.filled] for place in range(sizes.size)), z)
             left = list(known)
             for column, values in there.items():
@@ -239,9 +253,10 @@ class Draft:
                 low, high = 0, min(over, len(ordered))
                 while low < high:
                     middle = (low + high + 1) // 2
-                    fewer = [it & ~sum(1 << z - 1 - place % z for place, *_ in ordered[:middle]) if at == column else it
-                             for at, it in enumerate(left)]
-                    low, high = (middle, high) if peeling.finds(rows, fewer, sizes.k) else (low, middle - 1)
+                    fewer = tuple(it & ~sum(1 << z - 1 - place % z for place, *_ in ordered[:middle]) if at == column else it
+                                  for at, it in enumerate(left))
+                    lost = any(peeling.peeled(rows, len(rows.rows), fewer, fewer).unknown[: sizes.k // z])
+                    low, high = (low, middle - 1) if lost else (middle, high)
                 for place, t, number in ordered[:low]:
                     left[column] &= ~(1 << z - 1 - place % z)
                     self.kept[t][r].discard(number)
@@ -249,19 +264,6 @@ class Draft:
             if over > most:
                 return False
         return True
-
-    def deep(self, wanted: Wanted, least: int, most: int, tries: int) -> int | None:
-        """Keeps few columns of the one code block, which fix it in a number of rounds between these. It answers the
-        number, or None if no such columns are found."""
-        columns = Columns(self.receiver, self.sizes)
-        groups = self.groups(0, columns)
-        for kept in self.searched(columns, groups, wanted, "deep", tries):
-            rounds = columns.rounds(columns.mask(kept))
-            if least <= rounds <= most:
-                for t, parts in enumerate(self.kept):
-                    parts[0] = {number for group in kept if group[0] == t for number in groups[group]}
-                return rounds
-        return None
 
     def slack(self) -> int:
         """How many values arrive that are more than the information bits."""

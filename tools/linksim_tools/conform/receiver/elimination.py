@@ -8,10 +8,8 @@ import typing
 from linksim_tools.conform import bits as lists
 from linksim_tools.conform.receiver import peeling
 from linksim_tools.conform.receiver.chain import Receiver
-from linksim_tools.conform.receiver.level import octets_of
 
 if typing.TYPE_CHECKING:
-    from linksim_tools.conform.receiver.soft import Soft
     from linksim_tools.conform.receiver.steps import Sizes, Tables
     from linksim_tools.conform.receiver.reception import Answer, Arrival, Case
 
@@ -41,79 +39,66 @@ class Equations:
 
 
 class Solution:
-    """What the values of all code blocks of a block fix together."""
+    """What the values of all code blocks of a block fix together after a transmission that was taken."""
 
-    def __init__(self, receiver: Receiver, sizes: Sizes, told: Arrival, softs: typing.Sequence[Soft]) -> None:
-        self.sizes, self.equations = sizes, Equations()
-        self.rows = receiver.rows(sizes)
-        self.peelers: list[peeling.Peeler] = []
-        for soft in softs:
-            known, ones = (peeling.columns_of(text, sizes.z) for text in receiver.given(sizes, told, soft))
-            self.peelers.append(peeling.Peeler(self.rows, len(self.rows.rows), known, ones))
-            self.peelers[-1].spread()
-        places = [(r, column, bit) for r, it in enumerate(self.peelers) for column, open_ in enumerate(it.unknown)
-                  for bit in ones_of(open_)]
-        self.unknown = {place: 2 << number for number, place in enumerate(places)}
-        if len(places) <= MOST:
-            for r, it in enumerate(self.peelers):
-                self.add_rows(r, it)
+    def __init__(self, receiver: Receiver, told: Arrival) -> None:
+        self.sizes = sizes = receiver.sizes(told, told)
+        self.equations, self.unknown, rows = Equations(), 0, receiver.rows(sizes)
+        peelers = [peeling.peeled(rows, len(rows.rows), *receiver.columns(sizes, told, soft))
+                   for soft in receiver.processes[told.process].soft or []]
+        # The bits of each codeword in an equation: an unknown, or its value.
+        self.terms = [[self.term(left >> bit & 1, ones >> bit & 1) for left, ones in zip(it.unknown, it.ones)
+                       for bit in reversed(range(sizes.z))] for it in peelers]
+        if self.unknown <= MOST:
+            for terms, it in zip(self.terms, peelers):
+                self.add_rows(terms, it)
             self.add_crcs()
 
-    def term(self, r: int, column: int, bit: int) -> int:
-        """A bit of a column in an equation: an unknown, or its value."""
-        return self.unknown.get((r, column, bit)) or self.peelers[r].ones[column] >> bit & 1
+    def term(self, is_unknown: int, value: int) -> int:
+        """A bit in an equation, which is a new unknown or known."""
+        self.unknown += is_unknown
+        return 1 << min(self.unknown, MOST) if is_unknown else value
 
-    def add_rows(self, r: int, found: peeling.Peeler) -> None:
-        """The parity rows of a code block."""
-        z, most = self.rows.z, found.most
-        for row in self.rows.rows:
+    def add_rows(self, terms: list[int], found: peeling.Peeler) -> None:
+        z = found.rows.z
+        for row in found.rows.rows:
             left = 0
             for column, shift in row:
                 left |= found.unknown[column] << shift | found.unknown[column] >> (z - shift)
-            for bit in ones_of(left & most):
+            for bit in ones_of(left & found.most):
                 total = 0
                 for column, shift in row:
-                    total ^= self.term(r, column, (bit - shift) % z)
+                    total ^= terms[(column + 1) * z - 1 - (bit - shift) % z]
                 self.equations.add(total)
 
-    def place(self, r: int, number: int) -> tuple[int, int, int]:
-        """Where information bit `number` of a code block stands."""
-        column, bit = divmod(self.sizes.info.start + number, self.sizes.z)
-        return r, column, self.sizes.z - 1 - bit
-
     def add_crcs(self) -> None:
-        """The CRCs of the code blocks and of the block."""
-        of, part = self.sizes, self.sizes.kdash - self.sizes.l
-        if of.l:
-            for r in range(of.c):
-                self.add_crc("CRC24B", [self.place(r, number) for number in range(of.kdash)])
-        self.add_crc("CRC24A" if of.a > 3824 else "CRC16", [self.place(*divmod(number, part)) for number in range(of.b)])
+        of, block = self.sizes, [it for info in self.infos for it in info[: self.sizes.kdash - self.sizes.l]]
+        for info in self.infos if of.l else ():
+            self.add_crc("CRC24B", info)
+        self.add_crc("CRC24A" if of.a > 3824 else "CRC16", block[: of.b])
 
-    def add_crc(self, name: str, places: list[tuple[int, int, int]]) -> None:
+    @property
+    def infos(self) -> list[list[int]]:
+        """The information bits of each code block in equations."""
+        return [terms[self.sizes.info.start :][: self.sizes.kdash] for terms in self.terms]
+
+    def add_crc(self, name: str, terms: list[int]) -> None:
         """That a list with its parity bits leaves no remainder."""
-        degree, terms = lists.POLYNOMIALS[name]
+        degree, polynomial = lists.POLYNOMIALS[name]
         sums, power = [0] * degree, 1
-        for place in reversed(places):
-            it = self.term(*place)
+        for it in reversed(terms):
             for bit in ones_of(power) if it else ():
                 sums[bit] ^= it
-            power = (power << 1) ^ (1 << degree | terms if power >> (degree - 1) else 0)
+            power = (power << 1) ^ (1 << degree | polynomial if power >> (degree - 1) else 0)
         for total in sums:
             self.equations.add(total)
 
-    def info(self, r: int) -> str:
-        """The information bits of a code block; `?` where several blocks are consistent."""
-        found = []
-        for number in range(self.sizes.kdash):
-            rest = self.equations.reduced(self.term(*self.place(r, number)))
-            found.append("?" if rest > 1 else str(rest))
-        return "".join(found)
-
-    def infos(self) -> list[str] | None:
-        """The same of all code blocks; None if no block is consistent, or too much is unknown."""
-        if len(self.unknown) > MOST or not self.equations.are_consistent:
+    def fixed(self) -> list[str] | None:
+        """The information bits of all code blocks, `?` where they are not fixed; None if none is consistent or too much open."""
+        if self.unknown > MOST or not self.equations.are_consistent:
             return None
-        return [self.info(r) for r in range(self.sizes.c)]
+        rests = [[self.equations.reduced(it) for it in info] for info in self.infos]
+        return ["".join("?" if it > 1 else str(it) for it in info) for info in rests]
 
 
 def ones_of(number: int) -> typing.Iterator[int]:
@@ -121,12 +106,6 @@ def ones_of(number: int) -> typing.Iterator[int]:
     while number:
         yield number.bit_length() - 1
         number ^= 1 << (number.bit_length() - 1)
-
-
-def solved(receiver: Receiver, told: Arrival) -> list[str] | None:
-    """The information bits that are fixed after a transmission that a right receiver has taken; None as above."""
-    sizes = receiver.sizes(told, told)
-    return Solution(receiver, sizes, told, receiver.processes[told.process].soft or []).infos()
 
 
 def block_of(sizes: Sizes, infos: list[str] | None) -> str | None:
@@ -148,15 +127,14 @@ def accepted(tables: Tables, case: Case, answers: typing.Sequence[Answer | None]
     delivered may be kept."""
     receiver, found = Receiver(tables), []
     kept: dict[int, str] = {}
-    for told, values, answer in zip(case.arrivals, case.values, answers):
-        right = receiver.take(told, octets_of(values))
+    for told, right, answer in zip(case.arrivals, receiver.answers(case), answers):
         if told.fresh:
             kept.pop(told.process, None)
         pairs = [] if answer is None else [it for it in pairs_of(answer, right) if it[0] != it[1]]
         found.append(bool(pairs) and all(other == "?" for _, other in pairs))
         if answer is None or not found[-1] or answer.delivered and answer.delivered == kept.get(told.process):
             continue
-        infos = solved(receiver, told)
+        infos = Solution(receiver, told).fixed()
         found[-1] = infos is not None and is_fixed(answer, infos, block_of(receiver.sizes(told, told), infos))
         if found[-1] and answer.delivered:
             kept[told.process] = answer.delivered

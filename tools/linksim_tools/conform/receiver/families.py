@@ -1,5 +1,6 @@
 """Mistakes of receivers that no list has, by their kind: numbers, limits and rows that an encoder has too, and what a receiver
-does alone. Each is tried in the model on what was answered."""
+does alone. Which of them give what was answered is tried in the model. How much is tried is counted in values, so that a verdict is
+the same on every machine."""
 
 from __future__ import annotations
 
@@ -15,8 +16,8 @@ from linksim_tools.conform.encoder.families.orders import SYMBOLS
 from linksim_tools.conform.mistake import Method, Mistake, replacing
 from linksim_tools.conform.receiver import known_answers, steps
 from linksim_tools.conform.receiver.chain import Process, Receiver
-from linksim_tools.conform.receiver.mistakes import SHARED, STEP_OF
-from linksim_tools.conform.receiver.soft import Soft
+from linksim_tools.conform.receiver.mistakes import SHARED, of_encoder, pairwise, translating
+from linksim_tools.conform.receiver.soft import Soft, each, wrapped
 from linksim_tools.conform.receiver.steps import Places, Sizes
 from linksim_tools.conform.receiver.reception import Arrival, translated
 
@@ -28,6 +29,12 @@ HOOKS = frozenset("""
 start starts buffer_length reference bits_of_code_block count lengths unit is_longer shared_by place ring base_graph filled_columns
 lifting_size set_index has_several largest shift value read rows is_rate_low is_rate_lowest
 """.split())
+# If more fit than these, none is told. They are looked for until receivers were given so many values.
+MOST, WORK = 4, 40_000_000
+# So many mistakes a case that fails is taken to have told away before it is tried.
+LIKELY = 8
+# What is tried first if a single case fails.
+FIRST = ("too-few-bits", "of-a-kind")
 VERSIONS = [it for count in (1, 2, 3) for it in itertools.combinations(range(4), count)]
 
 
@@ -37,20 +44,13 @@ def kind(step: str, clause: str, wrong: str, change: str, **methods: Method) -> 
     return Mistake("of-a-kind", step, (), clause, wrong, change, replacing(Receiver, hook, method))
 
 
-def shared(it: Mistake) -> Mistake:
-    """An encoder's mistake as one of a receiver."""
-    made = type("Shared", (Receiver,), {"shared": frozenset([it])})
-    return dataclasses.replace(it, step=STEP_OF[it.step], also=(), made=made)
-
-
-def numbers_of(of: Diagnosis, told: Arrival, wrong: steps.Wrong) -> typing.Any:
-    """The sizes of a transmission, its places and its rows; None if there are none."""
+def numbers_of(of: Diagnosis, told: Arrival, made: type[Receiver]) -> typing.Any:
+    """The numbers that such a receiver has of a transmission, and its rows; None if there are none."""
+    receiver = made(of.suite.tables)
     try:
-        sizes = steps.sizes(told.a, told.rate2048, wrong)
-        _, length = steps.window(sizes, wrong)
-        ncb = steps.buffer_length(sizes, length, told.lbrm, len(told.scheduled(sizes.c)), wrong)
-        places = steps.start(sizes, ncb, told.rv, wrong), steps.lengths(sizes, told, wrong)
-        return sizes, ncb, places, of.suite.tables.rows(sizes, wrong).rows
+        sizes = receiver.sizes(told, told)
+        ncb = receiver.buffer(sizes, told)
+        return sizes, ncb, receiver.start(sizes, ncb, told.rv), receiver.lengths(sizes, told, told), receiver.rows(sizes).rows
     except known_answers.FAULTS:
         return None
 
@@ -58,15 +58,15 @@ def numbers_of(of: Diagnosis, told: Arrival, wrong: steps.Wrong) -> typing.Any:
 def of_encoders(of: Diagnosis, failing: list[str]) -> typing.Iterator[Mistake]:
     """The mistakes of encoders that a receiver can make, and no known one of receivers is."""
     told = dict.fromkeys(it for kept in of.suite.cases.values() for it in kept.case.arrivals)
-    trials = [types.SimpleNamespace(case=it, right=types.SimpleNamespace(plan=steps.sizes(it.a, it.rate2048, steps.RIGHT)))
+    trials = [types.SimpleNamespace(case=it, right=types.SimpleNamespace(plan=steps.sizes(it.a, it.rate2048)))
               for it in told]
     listed = (it for name, it in encoders.MISTAKES.items() if name not in SHARED)
-    right = {it: numbers_of(of, it, steps.RIGHT) for it in of.suite.cases[failing[0]].case.arrivals}
+    right = {it: numbers_of(of, it, Receiver) for it in of.suite.cases[failing[0]].case.arrivals}
     for it in itertools.chain(listed, limits.mistakes(trials), numbers.mistakes(), of_tables.rows_lost()):
-        hooks = HOOKS & vars(it.made).keys()
+        hooks, mistake = HOOKS & vars(it.made).keys(), of_encoder(it, shared=frozenset([it]))
         # What is read round the buffer's end is not a number.
-        if hooks and ("ring" in hooks or any(numbers_of(of, told, frozenset([it])) != had for told, had in right.items())):
-            yield shared(it)
+        if hooks and ("ring" in hooks or any(numbers_of(of, told, mistake.made) != had for told, had in right.items())):
+            yield mistake
 
 
 def at_places(change: typing.Callable[..., tuple[Sizes, Arrival]]) -> Method:
@@ -144,22 +144,8 @@ def of_parting() -> typing.Iterator[Mistake]:
                        sorted(right(sizes, *given), reverse=True) if sizes.c == count else right(sizes, *given)))
 
 
-def wrapped(bits: int) -> typing.Callable[[int], int]:
-    return lambda it: (it + (1 << bits - 1)) % (1 << bits) - (1 << bits - 1)
-
-
 def clipped(bits: int) -> typing.Callable[[int], int]:
     return lambda it: max(-(1 << bits - 1), min(it, (1 << bits - 1) - 1))
-
-
-def each(change: typing.Callable[..., int], *softs: Soft) -> Soft:
-    """What is made of the values at each place. There are few different ones, each of which is changed once."""
-    made = {values: change(*values) for values in set(zip(*softs))}
-    return Soft(map(made.__getitem__, zip(*softs)))
-
-
-def translating(table: bytes) -> Method:
-    return lambda _self, _right, values: values.translate(table)
 
 
 def of_sums() -> typing.Iterator[Mistake]:
@@ -176,8 +162,7 @@ def of_sums() -> typing.Iterator[Mistake]:
                         ("the mean of what there was and what came is kept", lambda old, new: int((old + new) / 2)),
                         ("what comes later counts half", lambda old, new: old + int(new / 2) if old else new),
                         ("what comes is taken away from what there was", lambda old, new: old - new if old else new)):
-        yield kind("combining", "5.4.2.1", words, "add the values",
-                   combined=lambda _self, _right, had, came, _places, made=made: each(made, had, came))
+        yield kind("combining", "5.4.2.1", words, "add the values", combined=pairwise(made))
     for words, first in (("the first transmission alone counts", True), ("the last transmission alone counts", False)):
         yield kind("combining", "5.4.2.1", words, "add the values",
                    combined=lambda _self, _right, had, came, _places, first=first: had if first and any(had) else came)
@@ -242,14 +227,64 @@ def of_decision() -> typing.Iterator[Mistake]:
                         ("the last 16 bits", slice(-16, None)), ("all but the last bit", slice(-1))):
         yield kind("decision", "5.1", f"of the CRC of the transport block {words} alone counts", "compare all of it",
                    fits_block=lambda _self, _right, sizes, a, rest, _texts, part=part: (
-                       len(a) == sizes.a and steps.attached(a, steps.RIGHT)[sizes.a :][part] == rest[part]))
+                       len(a) == sizes.a and steps.attached(a)[sizes.a :][part] == rest[part]))
 
 
 def mistakes(of: Diagnosis, failing: list[str]) -> typing.Iterator[Mistake]:
-    """All of them."""
     yield from of_decision()
     yield from of_parting()
     yield from of_sums()
     yield from of_processes()
     yield from of_places()
     yield from of_encoders(of, failing)
+
+
+def merged(fitting: list[Mistake]) -> list[Mistake]:
+    """The same, with those together that have the same text up to a colon."""
+    heads: dict[str, list[Mistake]] = {}
+    for it in fitting:
+        heads.setdefault(it.wrong.partition(": ")[0], []).append(it)
+    alike = {head: " or ".join(filter(None, (it.wrong.partition(": ")[2] for it in some))) for head, some in heads.items()}
+    return [dataclasses.replace(some[0], wrong=": ".join(filter(None, (head, alike[head])))) for head, some in heads.items()]
+
+
+class Trials:
+    """The cases on which mistakes are tried: first the smallest that fails, then what is small and told many others away."""
+
+    def __init__(self, of: Diagnosis, failing: list[str]) -> None:
+        self.of, self.first, self.work = of, failing[0], 0
+        self.told = {**dict.fromkeys(of.judged, 1), **dict.fromkeys(failing, LIKELY)}
+        self.sizes = {name: of.suite.cases[name].case.size for name in of.judged}
+        self.order = sorted(of.judged, key=self.cost)
+
+    def cost(self, name: str) -> float:
+        """How many values a case has for each mistake that it told away."""
+        return 0 if name == self.first else self.sizes[name] / self.told[name]
+
+    def fit(self, it: Mistake) -> bool:
+        """Whether a mistake gives what was answered to all cases."""
+        for name in self.order:
+            self.work += self.sizes[name]
+            if not self.of.given_by(it.made, name):
+                if name != self.first:
+                    self.told[name] += 1
+                    self.order.sort(key=self.cost)
+                return False
+        return True
+
+
+def found(of: Diagnosis, failing: list[str]) -> tuple[list[Mistake], bool]:
+    """Those that give what was answered to all cases, none if there are too many; and whether the search was cut short. If a
+    single case fails, no limits of rules are among them: many would."""
+    tried, most = mistakes(of, failing), MOST
+    if len(failing) == 1:
+        tried = iter(sorted((it for it in tried if it.name != "other-limit"), key=lambda it: (*FIRST, it.name).index(it.name)))
+        most = 2 * MOST
+    trials = Trials(of, failing)
+    fitting: list[Mistake] = []
+    for it in tried:
+        if trials.work > WORK or len(merged(fitting)) > most:
+            break
+        if trials.fit(it):
+            fitting.append(it)
+    return merged(fitting) if len(merged(fitting)) <= most else [], trials.work > WORK

@@ -1,4 +1,4 @@
-"""What a receiver with each known mistake answers to a case."""
+"""What a receiver with each known mistake answers to a case, and what right ones do that keep what has passed."""
 
 from __future__ import annotations
 
@@ -6,12 +6,11 @@ import functools
 import hashlib
 import typing
 
+from linksim_tools.conform.clauses import right
 from linksim_tools.conform.receiver import steps
-from linksim_tools.conform.receiver.level import MODEL, Level, octets_of
-from linksim_tools.conform.receiver.chain import Receiver
-from linksim_tools.conform.receiver.mistakes import receiver_with
-from linksim_tools.conform.receiver.mistakes.catalogue import STEPS
-from linksim_tools.conform.receiver.reception import Answer, Arrival, Case
+from linksim_tools.conform.receiver.chain import Process, Receiver
+from linksim_tools.conform.receiver.mistakes import STEPS, receiver_with
+from linksim_tools.conform.receiver.reception import MODEL, Answer, Arrival, Case, Level, octets_of
 
 FAULTS = (steps.Impossible, IndexError, ValueError, ZeroDivisionError)
 
@@ -22,13 +21,13 @@ NONE, MEANT = "-", "ok"
 # What is answered by a receiver that cannot take a transmission.
 NOTHING = Answer(None)
 
-
 # What is answered to the transmissions of a case, a word a level.
 Shown = typing.Tuple[typing.Tuple[str, ...], ...]
+# For each transmission of a case what is accepted too: the block, and which code blocks passed.
+Also = typing.Tuple[typing.Tuple[typing.Tuple[str, str], ...], ...]
 
 
 def digest(text: str) -> str:
-    """What stands for a text."""
     return hashlib.md5(text.encode()).hexdigest()[:8]
 
 
@@ -41,14 +40,14 @@ def digest_of(texts: tuple[str, ...], least: int | None = None) -> str:
 @functools.lru_cache(4096)
 def least_soft(told: Arrival) -> int:
     """How many soft values of a code block are answered at least: as many as its buffer has."""
-    sizes = steps.sizes(told.a, told.rate2048, steps.RIGHT)
-    return steps.buffer_length(sizes, sizes.n, told.lbrm, len(told.scheduled(sizes.c)), steps.RIGHT)
+    sizes = steps.sizes(told.a, told.rate2048)
+    return right().buffer_length(sizes, sizes.n, told.lbrm, 1)
 
 
 @functools.lru_cache(4096)
 def soft_of(texts: tuple[str, ...], a: int, rate2048: int) -> tuple[str, ...]:
     """The signs of d with zeros at the places of fillers: some receivers keep fillers there as sure zeros."""
-    sizes = steps.sizes(a, rate2048, steps.RIGHT)
+    sizes = steps.sizes(a, rate2048)
     first, last = (place - 2 * sizes.z for place in (sizes.kdash, sizes.k))
     return tuple(text[:first] + "0" * len(text[first:last]) + text[last:] for text in texts)
 
@@ -56,6 +55,11 @@ def soft_of(texts: tuple[str, ...], a: int, rate2048: int) -> tuple[str, ...]:
 def block(answer: Answer, meant: str) -> str:
     """The word of the block of an answer."""
     return NONE if answer.delivered is None else MEANT if answer.delivered == meant else digest(answer.delivered)
+
+
+def blocks(shown: Shown) -> tuple[str, ...]:
+    """The words of the blocks of these answers."""
+    return tuple(it[0] for it in shown)
 
 
 def shown(answer: Answer, meant: str, told: Arrival) -> tuple[str, ...]:
@@ -76,18 +80,43 @@ def taken(receiver: Receiver, case: Case, level: Level = MODEL) -> typing.Iterat
         yield answer
 
 
-def answers(tables: steps.Tables, wrong: frozenset[str], case: Case) -> tuple[Shown, bool]:
-    """The same of a receiver with these mistakes, and whether some row was not met."""
-    receiver = receiver_with(wrong)(tables)
-    return tuple(map(shown, taken(receiver, case), case.meant, case.arrivals)), receiver.clash
-
-
 def everyone(tables: steps.Tables, names: typing.Iterable[str], case: Case) -> dict[str, tuple[Shown, bool]]:
-    """The same of each of these mistakes, and of none under the empty name."""
-    return {name: answers(tables, frozenset([name] if name else []), case) for name in ("", *names)}
+    """The same of each of these mistakes, and of none under the empty name, and whether some row was not met."""
+    found = {}
+    for name in ("", *names):
+        receiver = receiver_with(frozenset([name] if name else []))(tables)
+        found[name] = tuple(map(shown, taken(receiver, case), case.meant, case.arrivals)), receiver.clash
+    return found
 
 
-def right_answers(tables: steps.Tables, case: Case) -> list[Answer]:
-    """What a right receiver answers."""
-    receiver = Receiver(tables)
-    return [receiver.take(told, octets_of(text)) for told, text in zip(case.arrivals, case.values)]
+class Block(Receiver):
+    """Keeps a block that was delivered until a fresh one begins, as TS 38.321, 5.3.2.2 has it: values are combined only while a
+    block is not decoded. That is right too, so what it answers is accepted beside what the program proves."""
+
+    def answered(self, process: Process, bits: str | None) -> str | None:
+        return bits or process.delivered
+
+
+class CodeBlocks(Block):
+    """Keeps each code block that passed too."""
+
+    def decoded_all(self, sizes: steps.Sizes, told: Arrival, process: Process) -> list[str]:
+        found = super().decoded_all(sizes, told, process)
+        if told.fresh:
+            process.passed.clear()
+        for r, it in enumerate(found):
+            if sizes.l and self.is_known(it) and self.fits_code_block(sizes, it):
+                process.passed.setdefault(r, it)
+        return [process.passed.get(r, it) for r, it in enumerate(found)]
+
+
+def also(tables: steps.Tables, case: Case, right: Shown) -> Also:
+    """What receivers that keep something answer to a case, as far as it is not what a right one answers."""
+    found: list[dict[tuple[str, str], None]] = [{} for _ in case.arrivals]
+    for kind in (Block, CodeBlocks):
+        for accepted, told, meant, answer in zip(found, case.arrivals, case.meant, kind(tables).answers(case)):
+            block, passed, *_ = shown(answer, meant, told)
+            accepted[block, passed] = None
+            if block == MEANT:
+                accepted[block, "1" * len(passed)] = None
+    return tuple(tuple(it for it in accepted if it != words[:2]) for accepted, words in zip(found, right))

@@ -5,48 +5,40 @@ from __future__ import annotations
 
 import typing
 
-from linksim_tools.conform.receiver import elimination, blocks, plain
+from linksim_tools.conform.receiver import elimination, plain
 from linksim_tools.conform.receiver.drafts import Draft
 from linksim_tools.conform.receiver.known_answers import FAULTS
-from linksim_tools.conform.receiver.level import octets_of
-from linksim_tools.conform.receiver.blocks import Maker
+from linksim_tools.conform.receiver.blocks import WANTED, Maker
 from linksim_tools.conform.receiver.mistakes import MISTAKES
-from linksim_tools.conform.receiver.reception import Arrival, Case
+from linksim_tools.conform.receiver.reception import Case
 
-ORDERS = (blocks.extension, blocks.early, blocks.parity, blocks.last, blocks.even)
+ORDERS = [WANTED[it] for it in ("extension", "early", "parity", "last", "even")]
 
 
 def same(one: Draft, other: Draft) -> bool:
     """Whether two drafts have the same words at the same places."""
     if one.words != other.words or "sign-inverted" in one.receiver.shared:
         return False
-    pairs = zip(one.laid, other.laid)
-    return all([(it.numbers, tuple(it.places)) for it in x] == [(it.numbers, tuple(it.places)) for it in y] for x, y in pairs)
+    return all([*one.stand(r)] == [*other.stand(r)] for r in range(one.sizes.c))
 
 
-def delivers(make: Maker, wrong: typing.Sequence[str], arrivals: list[Arrival], values: list[str]) -> tuple[str | None, bool]:
-    """What a receiver with these mistakes hands up in the end, and whether some row was not met."""
-    receiver, answer = make.receiver(*wrong), None
-    for told, text in zip(arrivals, values):
-        answer = receiver.take(told, octets_of(text)).delivered
-    return answer, receiver.clash
-
-
-def is_fixed(make: Maker, draft: Draft, values: list[str]) -> bool:
-    """Whether a right receiver may deliver these values of a draft, by peeling or by elimination."""
-    receiver, told = make.receiver(), draft.arrivals[-1]
-    for told, text in zip(draft.arrivals, values):
-        answer = receiver.take(told, octets_of(text))
-    fixed = elimination.block_of(receiver.sizes(told, told), elimination.solved(receiver, told))
-    return answer.delivered is not None or fixed is not None
+def is_mirror(make: Maker, case: Case) -> bool | None:
+    """Whether a receiver with the mistake of a case delivers its block, and a right one may not; None if that may too."""
+    mistaken, right, told = make.receiver(case.mirror), make.receiver(), case.arrivals[-1]
+    *_, answer = mistaken.answers(case)
+    if answer.delivered != case.meant[-1] or mistaken.clash:
+        return False
+    *_, answer = right.answers(case)
+    fixed = elimination.block_of(right.sizes(told, told), elimination.Solution(right, told).fixed())
+    return True if answer.delivered is None and fixed is None else None
 
 
 # The mistakes that have a mirror, by the transmissions that mostly have one.
 BY_CONFIGURATION = """
-a8-rv0: sign-inverted fillers-filled punctured-one fillers-ones crc-exchanged crc-preset crc-inverted
-  crc-parity-lowest-first crc-octets-lowest-first graph-by-rate kb-10 lifting-by-k lifting-next lifting-strict set-next
-  set-rows set-from-one shift-left shift-unreduced shift-subtracted-once shift-capped shift-scaled
-  shift-multiple-dropped fillers-first punctured-sent punctured-kept extension-information-alone k0-shifted
+a8-rv0: sign-inverted fillers-filled punctured-one fillers-ones crc-exchanged crc-preset crc-inverted crc-parity-lowest-first
+  crc-octets-lowest-first graph-by-rate kb-10 lifting-by-k lifting-next lifting-strict set-next set-rows set-from-one shift-left
+  shift-unreduced shift-subtracted-once shift-capped shift-scaled shift-multiple-dropped fillers-first punctured-sent punctured-kept
+  extension-information-alone k0-shifted
 a8-rv1: rv-ignored k0-other-graph k0-in-word rv-order interleaver-transposed interleaver-by-columns
 a8-rv1-limit47: wrapped-to-start ncb-no-factor ncb-times-factor ncb-ignored k0-from-n wrapped-at-n
 a8-rv2-limit61: k0-plus-one-column k0-no-floor
@@ -63,8 +55,8 @@ a632-rv0: fillers-unshifted
 a3816-rv0: crc-by-b
 a3824-rv0: graph-3824-strict segment-limit
 a3832-1372-rv0: crc-24a-24b kcb-3840
-two-rv0: blocks-taken-reversed joined-reversed graph-quarter-strict graph-quarter-forgotten code-crc-left-out
-  code-crc-zeros code-crc-over-fillers crc-after-segmentation interleaver-over-all
+two-rv0: blocks-taken-reversed joined-reversed graph-quarter-strict graph-quarter-forgotten code-crc-left-out code-crc-zeros
+  code-crc-over-fillers crc-after-segmentation interleaver-over-all
 two-uneven: lengths-all-shorter lengths-longer-first lengths-no-layers
 two-other-qm: lengths-of-first
 two-limit-twice: ncb-no-c
@@ -96,44 +88,41 @@ def mirror(make: Maker, name: str, configurations: typing.Sequence[plain.Configu
                 if same(draft, right):
                     continue
                 tried += 1
-                values, why = laid_for(make, name, draft, label, FEW if tried > 1 else TRIES, over, right)
+                what = f"only a receiver with {name} delivers it ({label})"
+                case = Case(f"mirror-{name}", MISTAKES[name].step, what, arrivals, [], [bits] * len(arrivals), name)
+                why = laid_for(make, case, draft, right, label, FEW if tried > 1 else TRIES, over)
             except FAULTS:  # the mistake has no sense for these sizes
                 continue
-            if values is not None:
-                what = f"only a receiver with {name} delivers it ({label})"
-                return Case(f"mirror-{name}", MISTAKES[name].step, what, arrivals, values, [bits] * len(arrivals), name)
+            if not why:
+                return case
     return why
 
 
-def laid_for(
-    make: Maker, name: str, draft: Draft, label: str, tries: int, over: int, right: Draft
-) -> tuple[list[str] | None, str]:
-    """Values of a draft that a receiver with this mistake delivers and a right one does not, of which so many may be more than the
-    block has bits; or None, and why. If some may, those come first that a right receiver takes otherwise."""
+def laid_for(make: Maker, case: Case, draft: Draft, right: Draft, label: str, tries: int, over: int) -> str:
+    """Gives a case values of a draft that a receiver with this mistake delivers and a right one does not, of which so many may be
+    more than the block has bits, or says why none are. If some may, those come first that a right receiver takes otherwise."""
     why, needed = "no columns of the table fix the block", draft.differing(right) if over else []
-    places = {(t, place // draft.sizes.z) for t, parts in enumerate(draft.laid) for r, part in enumerate(parts)
-              for number, place in zip(part.numbers, part.places) if over and (t, number) in needed[r]}
-    first = draft.sizes.k // draft.sizes.z
+    z, first = draft.sizes.z, draft.sizes.k // draft.sizes.z
+    places = {(t, place // z) for r, some in enumerate(needed) for t, number, place in draft.stand(r) if (t, number) in some}
 
     def otherwise(t: int, column: int, copy: int) -> typing.Any:
         return (t, column + first) not in places, column
 
-    for wanted in (otherwise, blocks.extension, blocks.last) if over else ORDERS:
+    for wanted in (otherwise, WANTED["extension"], WANTED["last"]) if over else ORDERS:
         draft.kept = [[set(part.numbers) for part in parts] for parts in draft.laid]
         found = draft.critical(wanted, seed=label, tries=tries)
         if found is None or found.slack() and not (over and found.thinned(over, needed)):
             why = why if found is None else "what fixes the block has more values than bits, so a right receiver sees the error"
             continue
-        values = found.values()
-        if delivers(make, [name], draft.arrivals, values) == (draft.bits, False):
-            if not is_fixed(make, draft, values):
-                return values, ""
-            why = "a right receiver finds the block too"
-    return None, why
+        case.values = found.values()
+        is_one = is_mirror(make, case)
+        if is_one:
+            return ""
+        why = "a right receiver finds the block too" if is_one is None else why
+    return why
 
 
 def all_of(make: Maker) -> typing.Iterator[Case]:
-    """The mirrors of all mistakes that have one."""
     known = dict(plain.configurations())
     small = [pair for pair in known.items() if sum(it.g for it in pair[1]) < 1200]
     for line in BY_CONFIGURATION.replace("\n  ", " ").strip().splitlines():

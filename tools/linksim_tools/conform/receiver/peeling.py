@@ -4,18 +4,11 @@ are right in sign or 0 is found so. It takes as many rounds as the decoder needs
 
 from __future__ import annotations
 
-import dataclasses
 import functools
-import operator
 import typing
 
 if typing.TYPE_CHECKING:
     Row = typing.Tuple[typing.Tuple[int, int], ...]
-
-
-def mask_of(row: Row) -> int:
-    """A bit for each column of a row."""
-    return functools.reduce(operator.or_, [1 << column for column, _ in row], 0)
 
 
 class Rows:
@@ -26,13 +19,8 @@ class Rows:
         self.z, self.columns, self.rows = z, columns, rows
 
     @functools.cached_property
-    def are_reduced(self) -> bool:
-        """Whether no shift is above the lifting size: such a one is a fault where it is used."""
-        return all(shift <= self.z for row in self.rows for _, shift in row)
-
-    @functools.cached_property
     def masks(self) -> list[int]:
-        return [*map(mask_of, self.rows)]
+        return [sum({1 << column for column, _ in row}) for row in self.rows]
 
     @functools.cached_property
     def of_columns(self) -> list[list[int]]:
@@ -44,42 +32,12 @@ class Rows:
 
     def with_row(self, number: int, row: Row) -> Rows:
         """The rows with another one in the place of one, and with a column more."""
-        made = Rows(self.z, self.columns + 1, [*self.rows[:number], row, *self.rows[number + 1 :]])
-        made.masks = [*self.masks[:number], mask_of(row), *self.masks[number + 1 :]]
-        made.of_columns = [*self.of_columns, [number]]
-        return made
-
-
-@dataclasses.dataclass(frozen=True, eq=False)
-class Peeled:
-    """What so many of the rows find: what is known of each column in the end, and which bits are ones. Then after how many
-    rounds nothing more was found."""
-
-    rows: Rows
-    used: int
-    known: tuple[int, ...]
-    ones: tuple[int, ...]
-    rounds: int
-
-    @functools.cached_property
-    def clash(self) -> bool:
-        """Whether a row whose bits are all known has an odd number of ones. Few ask."""
-        z, most = self.rows.z, (1 << self.rows.z) - 1
-        for row in self.rows.rows[: self.used]:
-            known, total = most, 0
-            for column, shift in row:
-                here, ones = self.known[column], self.ones[column]
-                total ^= ones << shift ^ ones >> (z - shift)
-                if here != most:
-                    known &= here << shift | here >> (z - shift)
-            if total & known:
-                return True
-        return False
+        return Rows(self.z, self.columns + 1, [*self.rows[:number], row, *self.rows[number + 1 :]])
 
 
 class Peeler:
-    """A codeword of which some bits are known; the first `held` columns are never fixed. `giving` are the rows that fixed a bit
-    first."""
+    """A codeword of which some bits are known, peeled by the first rows; the first `held` columns are never fixed. `giving` are the
+    rows that fixed a bit first, and `rounds` says how often all rows found something."""
 
     def __init__(self, rows: Rows, used: int, known: tuple[int, ...], ones: tuple[int, ...], held: int = 0) -> None:
         self.rows, self.used, self.held = rows, used, held
@@ -87,9 +45,24 @@ class Peeler:
         self.unknown = [self.most & ~it for it in known]
         self.ones = list(ones)
         self.giving: set[int] = set()
+        self.rounds = 0
         # A bit for each column of which something is not known, and of which nothing is.
         self.open = sum([1 << column for column, it in enumerate(self.unknown) if it])
         self.empty = sum([1 << column for column, it in enumerate(self.unknown) if it == self.most])
+
+    @functools.cached_property
+    def clash(self) -> bool:
+        """Whether in the end a row whose bits are all known has an odd number of ones. Few ask."""
+        z, most = self.rows.z, self.most
+        for row in self.rows.rows[: self.used]:
+            open_ = total = 0
+            for column, shift in row:
+                left, ones = self.unknown[column], self.ones[column]
+                total ^= ones << shift ^ ones >> (z - shift)
+                open_ |= left << shift | left >> (z - shift)
+            if total & ~open_ & most:
+                return True
+        return False
 
     def singles(self, number: int) -> list[tuple[int, int, int]]:
         """The bits that a row fixes: columns, each with the places and with those that are ones."""
@@ -133,22 +106,21 @@ class Peeler:
             self.open &= ~(0 if self.unknown[column] else 1 << column)
         return new
 
-    def spread(self, most: int | None = None) -> int:
-        """Rounds in each of which all rows see what was known before it, at most so many, or until nothing is found. It says how
-        many these were."""
-        of_columns = self.rows.of_columns
+    def spread(self, most: int | None = None) -> bool:
+        """Rounds in each of which all rows see what was known before it, at most so many, or until nothing is found. It says
+        whether something was."""
+        of_columns, before = self.rows.of_columns, self.rounds
         todo: typing.Iterable[int] = range(self.used)
-        rounds = 0
-        while most is None or rounds < most:
+        while most is None or self.rounds < before + most:
             found = [(number, *it) for number in self.hopeful(todo) for it in self.singles(number)]
             gave = [(number, column) for number, column, places, ones in found if self.fix(column, places, ones)]
             if not gave:
                 break
-            rounds += 1
+            self.rounds += 1
             self.giving |= {number for number, _ in gave}
             changed = {column for _, column in gave}
             todo = sorted({number for column in changed for number in of_columns[column] if number < self.used})
-        return rounds
+        return self.rounds > before
 
     def layer(self) -> bool:
         """One pass over the rows one after the other; says whether something was found."""
@@ -159,38 +131,25 @@ class Peeler:
         return changed
 
 
-def finds(rows: Rows, known: typing.Sequence[int], count: int) -> bool:
-    """Whether the first `count` bits are found of what is known."""
-    made = Peeler(rows, len(rows.rows), tuple(known), tuple(known))
-    made.spread()
-    return not any(made.unknown[: count // rows.z])
-
-
 def depth(rows: Rows, known: tuple[int, ...], ones: tuple[int, ...], count: int) -> tuple[int, int] | None:
-    """In how many rounds, and in how many passes layer by layer, the first `count` bits are found; None if they are
-    not."""
+    """In how many rounds, and in how many passes layer by layer, the first `count` bits are found; None if they are not."""
     columns = count // rows.z
     flood, layers = (Peeler(rows, len(rows.rows), known, ones) for _ in range(2))
-    rounds = passes = 0
+    passes = 0
     while any(flood.unknown[:columns]):
         if not flood.spread(1):
             return None
-        rounds += 1
     while any(layers.unknown[:columns]) and layers.layer():
         passes += 1
-    return rounds, passes
+    return flood.rounds, passes
 
 
 @functools.lru_cache(1 << 14)
-def peeled(rows: Rows, used: int, known: tuple[int, ...], ones: tuple[int, ...], most: int | None, held: int = 0) -> Peeled:
+def peeled(rows: Rows, used: int, known: tuple[int, ...], ones: tuple[int, ...], most: int | None = None, held: int = 0) -> Peeler:
     """What is found in at most so many rounds; what was asked before is not computed again."""
     made = Peeler(rows, used, known, ones, held)
-    rounds = made.spread(most)
-    found = Peeled(rows, used, tuple([made.most & ~it for it in made.unknown]), tuple(made.ones), rounds)
-    if not rows.are_reduced:
-        # A shift above Zc is a fault at once, wherever a row with one is looked at.
-        _ = found.clash
-    return found
+    made.spread(most)
+    return made
 
 
 @functools.lru_cache(1024)

@@ -1,4 +1,5 @@
-"""Cases of one block each, whose values are all needed: sizes, versions, buffers, symbols, copies, retransmissions."""
+"""Cases of one block each, whose values are all needed: sizes, versions, buffers, symbols, copies, retransmissions. And those by
+which every parity row of both base graphs, with every entry in every set, decides a bit; what no pattern shows."""
 
 from __future__ import annotations
 
@@ -6,11 +7,13 @@ import itertools
 import random
 import typing
 
-from linksim_tools.conform.receiver import drafts, blocks, peeling, steps
-from linksim_tools.conform.receiver.level import octets_of
-from linksim_tools.conform.receiver.drafts import Draft
+from linksim_tools.common.graphs import GRAPHS
+from linksim_tools.conform.clauses import SETS
+from linksim_tools.conform.encoder.points import first_sizes
+from linksim_tools.conform.receiver import blocks, conditions, drafts, steps
+from linksim_tools.conform.receiver.drafts import Columns, Draft, Group
 from linksim_tools.conform.receiver.blocks import Maker, again, sized
-from linksim_tools.conform.receiver.reception import Arrival, Case
+from linksim_tools.conform.receiver.reception import Arrival, Case, octets_of
 
 # Sizes: a name, A and the code rate.
 SMALL = (
@@ -23,6 +26,11 @@ LARGE = (
     ("a3824-511", 3824, 511), ("a3832-513", 3832, 513), ("a3832", 3832, 2048), ("a8424", 8424, 2048),
 )
 SEVERAL = (("two", 3832, 512), ("three", 7656, 512), ("two-of-1", 8432, 2048))
+# So many cases at most are made for a base graph and a set, each the best of so many drawn orders of columns, and so many more in
+# vain.
+CASES, ORDERS, IN_VAIN = 9, 60, 4
+# A size A and a code rate by which each base graph has its largest lifting size.
+LARGEST_OF = {1: (8424, 2048), 2: (3824, 512)}
 Configuration = typing.Tuple[str, typing.List[Arrival]]
 
 
@@ -87,9 +95,6 @@ def configurations() -> typing.Iterator[Configuration]:
     yield from of_several()
 
 
-WANTED: dict[str, drafts.Wanted] = {it.__name__.replace("_", "-"): it for it in (
-    blocks.early, blocks.parity, blocks.extension, blocks.late, blocks.even, blocks.first, blocks.last, blocks.first_copy, blocks.second_copy
-)}
 # In which order other columns are tried if those that are wanted do not fix the block.
 OTHERWISE = ("early", "extension", "even", "late", "parity")
 
@@ -111,20 +116,23 @@ def about(arrivals: list[Arrival], wanted: str) -> str:
 
 def plain(make: Maker, name: str, arrivals: list[Arrival], wanted: str) -> typing.Iterator[Case]:
     """A case of these transmissions, if a pattern is found."""
-    for order in (wanted, *(it for it in OTHERWISE if it != wanted)):
+    for order in dict.fromkeys((wanted, *OTHERWISE)):
         try:
-            draft = make.draft(f"{name} {wanted}", arrivals, WANTED[order])
+            draft = make.draft(f"{name} {wanted}", arrivals, order)
         except steps.Impossible:
             continue
         yield make.case(f"{name}-{wanted}", step_of(name), about(arrivals, order), draft)
         return
-    make.leave_out(f"{name}-{wanted}", blocks.codewords(arrivals[0].a, arrivals[0].rate2048).graph)
+    make.leave_out(f"{name}-{wanted}", steps.sizes(arrivals[0].a, arrivals[0].rate2048).graph)
 
 
-def rung(told: Arrival, values: str, bits: str, need: tuple[int, int]) -> Case:
-    """A case that takes so many iterations, flooding and layer by layer."""
-    what = f"{need[0]} rounds of flooding, {need[1]} of layers"
-    return Case(f"rounds-{need[0]}", "decoder", what, [told], [values], [bits], rounds=need)
+def rung(make: Maker, draft: Draft, values: str) -> Case | None:
+    """A case of one transmission, with how many iterations find its block, flooding and layer by layer; None if none do."""
+    receiver, told = make.receiver(), draft.arrivals[0]
+    receiver.take(told, octets_of(values))
+    need, = receiver.depths(told)
+    what = f"{need[0]} rounds of flooding, {need[1]} of layers" if need else ""
+    return need and Case(f"rounds-{need[0]}", "decoder", what, [told], [values], [draft.bits], rounds=need)
 
 
 def ladder(make: Maker, wanted: typing.Sequence[tuple[int, int]]) -> typing.Iterator[Case]:
@@ -139,24 +147,19 @@ def ladder(make: Maker, wanted: typing.Sequence[tuple[int, int]]) -> typing.Iter
 
 
 def by_columns(make: Maker, least: int, most: int) -> typing.Iterator[Case]:
-    """Whole columns that take so many rounds."""
     for (name, a, rate), order in itertools.product(SMALL, ("parity", "late", "even", "extension")):
-        if blocks.codewords(a, rate).graph in make.tables.graphs():
+        if steps.sizes(a, rate).graph in make.tables.graphs():
             told, = sized(a, rate, [0], 0.99)
-            draft = make.draft(f"ladder {name}", [told], None)
-            if draft.deep(WANTED[order], least, most, 40):
-                values, = draft.values()
-                need = rounds_of(draft, values)
-                if need is not None:
-                    yield rung(told, values, draft.bits, need)
+            draft = make.whole(f"ladder {name}", [told])
+            if draft.critical(blocks.WANTED[order], "deep", 40, range(least, most + 1)):
+                yield from filter(None, [rung(make, draft, *draft.values())])
 
 
 def by_draws(make: Maker, least: int, most: int) -> typing.Iterator[Case]:
-    """Drawn erasures that take so many rounds."""
     told, = sized(1400, 2048, [0], 0.99)
-    if blocks.codewords(told.a, told.rate2048).graph not in make.tables.graphs():
+    if steps.sizes(told.a, told.rate2048).graph not in make.tables.graphs():
         return
-    draft, drawn = make.draft("ladder", [told], None), random.Random(f"{make.seed} ladder")
+    draft, drawn = make.whole("ladder", [told]), random.Random(f"{make.seed} ladder")
     whole, = draft.values()
     for _ in range(20):
         order = list(range(told.g))
@@ -166,21 +169,76 @@ def by_draws(make: Maker, least: int, most: int) -> typing.Iterator[Case]:
             middle = (low + high) // 2
             there = set(order[:middle])
             values = "".join([value if place in there else "0" for place, value in enumerate(whole)])
-            need = rounds_of(draft, values)
-            low, high = (middle, high) if need is None else (low, middle)
-            if need is not None and least <= need[0] <= most:
-                yield rung(told, values, draft.bits, need)
+            case = rung(make, draft, values)
+            low, high = (middle, high) if case is None else (low, middle)
+            if case and case.rounds and least <= case.rounds[0] <= most:
+                yield case
 
 
-def columns_known(draft: Draft, values: str) -> tuple[tuple[int, ...], tuple[int, ...]]:
-    """The columns of the first code block that are given by one transmission's values."""
-    receiver, sizes = draft.receiver, draft.sizes
-    part = receiver.parts(sizes, draft.arrivals[0], draft.arrivals[0], octets_of(values))[0]
-    known, ones = receiver.given(sizes, draft.arrivals[0], receiver.gathered(draft.laid[0][0].places, part, sizes.size))
-    return peeling.columns_of(known, sizes.z), peeling.columns_of(ones, sizes.z)
+def size_of(graph: int, index: int) -> tuple[int, int]:
+    """A small block, with its code rate, whose lifting size is of a set."""
+    z = next(z for (it, z) in first_sizes() if it == graph and SETS[z] == index and z > 3)
+    _, a, rate = first_sizes()[graph, z]
+    return a, rate
 
 
-def rounds_of(draft: Draft, values: str) -> tuple[int, int] | None:
-    """How many iterations find all information bits, flooding and layer by layer; None if none do."""
-    known, ones = columns_known(draft, values)
-    return peeling.depth(draft.receiver.rows(draft.sizes), known, ones, draft.sizes.k)
+def orders(groups: typing.Iterable[Group], first: int, left: set[int], drawn: random.Random) -> typing.Iterator[list[Group]]:
+    """Drawn orders of the columns that arrive: the parity columns of some of these rows, then those of others or information."""
+    for turn in range(ORDERS):
+        some = set(drawn.sample(sorted(left), min(len(left), drawn.randint(3, 14))))
+        yield sorted(groups, key=lambda it: (it[1] - first not in some, turn % 3 == 0 and it[1] < first, drawn.random()))
+
+
+def keeps_best(draft: Draft, left: set[int], drawn: random.Random) -> bool:
+    """Keeps few columns that fix the block by as many of these rows as drawn orders find; says whether there are such."""
+    columns = Columns(draft.receiver, draft.sizes)
+    groups = draft.groups(0, columns)
+
+    def lost(kept: list[Group]) -> int | None:
+        known = columns.mask(kept)
+        shown = {row for _, rows in columns.spread(known) for row in rows & left}
+        return -len(shown) if shown and columns.rounds(known) <= drafts.ROUNDS else None
+
+    tried = map(columns.least, orders(groups, draft.sizes.k // draft.sizes.z, left, drawn))
+    found = drafts.best((it for it in tried if it is not None), lost)
+    if found is not None:
+        draft.keep(0, found, groups)
+    return found is not None
+
+
+def showing(
+    make: Maker, name: str, seed: str, told: Arrival, left: set[int], most: int
+) -> typing.Generator[Case, None, set[int]]:
+    """So many cases of a transmission at most, until each of these rows decides a bit; returns those that do not."""
+    drawn, vain, count = random.Random(f"{make.seed} {seed}"), 0, 0
+    draft = make.whole(f"rows {seed}", [told])
+    while left and vain < IN_VAIN and count < most:
+        vain += 1
+        if keeps_best(draft, left, drawn):
+            case = make.case(f"{name}-{count}", "decoder", about([told], "drawn parity"), draft)
+            shown = conditions.deciding(make.tables, case) & left
+            if shown:
+                left, vain, count = left - shown, 0, count + 1
+                yield case
+    return left
+
+
+def of_large_numbers(make: Maker, graph: int) -> typing.Iterator[Case]:
+    """Cases of the largest lifting size, by a shift of 9 bits and by a place of d of 15 bits."""
+    told, = sized(*LARGEST_OF[graph], [0], 1.0)
+    rows = make.receiver().rows(steps.sizes(told.a, told.rate2048))
+    for what, some in (("shifts", {number for number, row in enumerate(rows.rows) if max(shift for _, shift in row) > 255}),
+                       ("places", {number for number, row in enumerate(rows.rows) if (row[-1][0] - 2) * rows.z > 16_383})):
+        if some and some == (yield from showing(make, f"rows-{graph}-{what}", f"{graph} {what}", told, some, 1)):
+            make.leave_out(f"rows-{graph}-{what}")
+
+
+def of_rows(make: Maker) -> typing.Iterator[Case]:
+    for graph in make.tables.graphs():
+        for index in range(8):
+            told, = sized(*size_of(graph, index), [0], 1.0, qm=(1, 2, 4)[index % 3])
+            rows = set(range(GRAPHS[graph].rows))
+            left = yield from showing(make, f"rows-{graph}-set{index}", f"{graph} {index}", told, rows, CASES)
+            if left:
+                make.leave_out(f"row {', '.join(map(str, sorted(left)))} of base graph {graph} in set {index}")
+        yield from of_large_numbers(make, graph)

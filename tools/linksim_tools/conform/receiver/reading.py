@@ -13,8 +13,7 @@ from linksim_tools.conform.encoder.families.orders import SYMBOLS
 from linksim_tools.conform.encoder.judging import NOTHING, Trials
 from linksim_tools.conform.encoder.search import Search
 from linksim_tools.conform.receiver import conditions, steps
-from linksim_tools.conform.receiver.level import octets_of
-from linksim_tools.conform.receiver.reception import ZERO
+from linksim_tools.conform.receiver.reception import ZERO, octets_of
 
 if typing.TYPE_CHECKING:
     from linksim_tools.conform.case import Case
@@ -29,8 +28,7 @@ LEAST, SOME = 12, 2
 
 @dataclasses.dataclass
 class Read:
-    """A case of one transmission, with what is right of it and k0 as it is read. If k0 is not read, then what else explains what is
-    seen."""
+    """A case of one transmission, with what is right of it and k0 as it is read, or what else explains what is seen."""
 
     case: Case
     values: Values
@@ -50,7 +48,7 @@ def begin(d: str, e: str, fillers: range) -> int | None:
 
 def read_of(name: str, told: Arrival, values: bytes, soft: typing.Sequence[str]) -> Read | None:
     """What is read of the first code block that is sent, by the right order and fillers, or by another order or without fillers."""
-    facts, sizes = conditions.facts_of(told), steps.sizes(told.a, told.rate2048, steps.RIGHT)
+    facts, sizes = conditions.facts_of(told), steps.sizes(told.a, told.rate2048)
     r, qm = facts.scheduled[0], told.qm
     f = values[: facts.lengths[r]].translate(SIGNS).decode()
     if len(soft) != sizes.c or len(f) - f.count("0") < LEAST or len(f) > facts.one_round:
@@ -86,7 +84,6 @@ def lines(of: Diagnosis, answers: Answers) -> list[str]:
 
 
 def starts(of: Diagnosis, found: list[Read]) -> list[str]:
-    """What is told of k0."""
     wrong = [it for it in found if it.k0 != it.values.k0]
     if len(wrong) < SOME:
         return []

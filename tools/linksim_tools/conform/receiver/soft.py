@@ -62,6 +62,17 @@ def gathered(places: Places, values: bytes, size: int) -> Soft:
     return found
 
 
+def each(change: typing.Callable[..., int], *softs: Soft) -> Soft:
+    """What is made of the values at each place. There are few different ones, each of which is changed once."""
+    made = {values: change(*values) for values in set(zip(*softs))}
+    return Soft(map(made.__getitem__, zip(*softs)))
+
+
+def wrapped(bits: int) -> typing.Callable[[int], int]:
+    """A number that wraps around in so many bits."""
+    return lambda it: (it + (1 << bits - 1)) % (1 << bits) - (1 << bits - 1)
+
+
 def digits(texts: typing.Iterable[bytes]) -> typing.Iterator[int]:
     """Texts as numbers, so that all octets are added or joined at once."""
     return (int.from_bytes(text, "big") for text in texts)

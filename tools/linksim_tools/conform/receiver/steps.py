@@ -5,7 +5,6 @@ from __future__ import annotations
 
 import dataclasses
 import functools
-import sys
 import typing
 
 from linksim_tools.common.graphs import GRAPHS, LARGEST
@@ -64,7 +63,7 @@ class Sizes(Plan):
 
 
 @functools.lru_cache(4096)
-def sizes(a: int, rate2048: int, wrong: Wrong) -> Sizes:
+def sizes(a: int, rate2048: int, wrong: Wrong = RIGHT) -> Sizes:
     """The sizes of a block (5.2.2, 6.2.2, 7.2.2)."""
     it = clauses(wrong)
     plan = it.plan_of(a, rate2048)
@@ -76,37 +75,16 @@ def sizes(a: int, rate2048: int, wrong: Wrong) -> Sizes:
     return Sizes(**numbers, filled=range(plan.kdash, plan.k), info=range(plan.kdash))
 
 
-@functools.lru_cache(None)
-def marks(until: int) -> str:
-    """A character for each place before this one."""
-    return MARKS[:until]
-
-
 @functools.lru_cache(1024)
 def window(of: Sizes, wrong: Wrong) -> tuple[int, int]:
     """At which place of the codeword d begins, and how long it is (5.3.2)."""
-    d = clauses(wrong).sent_columns(marks(of.size), of)
+    d = clauses(wrong).sent_columns(MARKS[: of.size], of)
     return ord(d[0]) - MARK, len(d)
 
 
-def buffer_length(of: Sizes, length: int, lbrm: int | None, scheduled: int, wrong: Wrong) -> int:
-    """Ncb (5.4.2.1)."""
-    return clauses(wrong).buffer_length(of, length, lbrm, max(scheduled, 1))
-
-
-def start(of: Sizes, ncb: int, version: int, wrong: Wrong) -> int:
-    """k0 (Table 5.4.2.1-2)."""
-    return clauses(wrong).start(of, ncb, version)
-
-
-def lengths(of: Sizes, told: Arrival, wrong: Wrong) -> list[int]:
-    """E_r of each code block (5.4.2.1)."""
-    return [*lengths_of(of.c, told, wrong)]
-
-
 @functools.lru_cache(4096)
-def lengths_of(c: int, told: Arrival, wrong: Wrong) -> tuple[int, ...]:
-    """The same of so many code blocks."""
+def lengths(c: int, told: Arrival, wrong: Wrong) -> tuple[int, ...]:
+    """E_r of each of so many code blocks (5.4.2.1)."""
     scheduled = told.scheduled(c)
     sent = Case("", "", told.rate2048, told.lbrm, told.rv, told.g, told.qm, told.nl)
     return tuple(clauses(wrong).lengths(sent, c, scheduled)) if scheduled else (0,) * c
@@ -123,23 +101,14 @@ class Places(typing.Tuple[int, ...]):
 
 
 NOWHERE = Places()
-SELECTING = frozenset(["fillers-counted", "wrapped-at-n"])
-
-
-def selected(ring: range, skipped: range, k0: int, ncb: int, count: int, wrong: Wrong) -> Places:
-    """The places of the codeword at which `count` bits of e stand, of a d in these places of it (5.4.2.1)."""
-    return selected_by(ring, skipped, k0, ncb, count, among(wrong, SELECTING, "selection"))
 
 
 @functools.lru_cache(1024)
-def selected_by(ring: range, skipped: range, k0: int, ncb: int, count: int, wrong: Wrong) -> Places:
-    """The same; what has no place is nowhere."""
+def selected(ring: range, skipped: range, k0: int, ncb: int, count: int, wrong: Wrong) -> Places:
+    """The places of the codeword at which `count` bits of e stand, of a d in these places of it (5.4.2.1)."""
     first, last = (min(max(it, ring.start), ring.stop) for it in (skipped.start, skipped.stop))
-    places = marks(ring.stop)
-    d = places[ring.start : first] + lists.FILLER * (last - first) + places[last:]
-    e = clauses(wrong).selected(d, k0, ncb, count)
-    codes = memoryview(e.encode(f"utf-32-{sys.byteorder[0]}e")).cast("I")
-    return Places(map(PLACES.__getitem__, codes))
+    d = MARKS[ring.start : first] + lists.FILLER * (last - first) + MARKS[last : ring.stop]
+    return Places(map(PLACES.__getitem__, map(ord, clauses(wrong).selected(d, k0, ncb, count))))
 
 
 def deinterleaved(f: bytes, symbol: int, wrong: Wrong) -> bytes:
@@ -163,24 +132,9 @@ def fits_code_block(of: Sizes, bits: str, wrong: Wrong) -> bool:
 
 
 @functools.lru_cache(1024)
-def attached(bits: str, wrong: Wrong) -> str:
+def attached(bits: str, wrong: Wrong = RIGHT) -> str:
     """A block with its CRC (6.2.1, 7.2.1)."""
     return clauses(wrong).attached(bits)
-
-
-def code_blocks(of: Sizes, block: str, wrong: Wrong) -> list[str]:
-    """The K' bits of each code block of a block with its CRC (5.2.2)."""
-    return clauses(wrong).code_blocks(block, of)
-
-
-def fits_block(of: Sizes, a: str, rest: str, texts: list[str], wrong: Wrong) -> bool:
-    """Whether the CRC of the transport block fits (6.2.1, 7.2.1)."""
-    if len(a) < of.a:
-        return False
-    block = attached(a, wrong)
-    if "crc-after-segmentation" in wrong and of.c > 1:
-        return code_blocks(of, block, wrong) == texts
-    return block[of.a :] == rest
 
 
 class Tables:
@@ -191,11 +145,9 @@ class Tables:
         self.made: dict[typing.Any, peeling.Rows] = {}
 
     def graphs(self) -> typing.KeysView[int]:
-        """The base graphs that the table has."""
         return self.key.tables.keys()
 
     def encoder(self, of: Sizes, wrong: Wrong) -> Encoder:
-        """The encoder of these sizes."""
         return encoder_of(clauses(among(wrong, LDPC, "ldpc")), self.key, of.graph, of.z, of.set)
 
     def word(self, of: Sizes, bits: str, wrong: Wrong) -> str:

@@ -8,8 +8,8 @@ import pathlib
 
 from linksim_tools.conform import bits as lists
 from linksim_tools.conform import files
-from linksim_tools.conform.receiver import keeping, steps
-from linksim_tools.conform.receiver.mistakes.catalogue import DOUBT, STEPS
+from linksim_tools.conform.receiver import known_answers, steps
+from linksim_tools.conform.receiver.mistakes import DOUBT, STEPS
 from linksim_tools.conform.receiver.known_answers import Shown
 from linksim_tools.conform.receiver.reception import Arrival, Case
 
@@ -25,7 +25,7 @@ class Kept:
     right: Shown
     proved: tuple[str, ...]
     wrong: dict[str, tuple[Shown, bool]]
-    also: keeping.Also
+    also: known_answers.Also
     clash: bool = False
     known: bool = True
 
@@ -59,14 +59,13 @@ def told_of(told: Arrival) -> files.Object:
     """What a receiver is told of a transmission, as JSON has it."""
     mask = "all"
     if told.mask is not None:
-        count = steps.sizes(told.a, told.rate2048, frozenset()).c
+        count = steps.sizes(told.a, told.rate2048).c
         mask = "".join("1" if r in told.mask else "0" for r in range(count))
     found = {name: getattr(told, name) for name in TOLD}
     return {**found, "fresh": int(told.fresh), "mask": mask}
 
 
 def case_of(value: files.Object) -> Kept:
-    """A case of an object of the suite."""
     arrivals, values, meant = [], [], []
     for it in value["transmissions"]:
         mask = None if it["mask"] == "all" else tuple(r for r, digit in enumerate(it["mask"]) if digit == "1")
@@ -92,7 +91,6 @@ def case_of(value: files.Object) -> Kept:
 
 
 def read(path: str | pathlib.Path) -> Suite:
-    """A suite file."""
     head, tables, cases = files.suite_of(path, "receiver", {"profile", "seed", "made"}, case_of)
     made = {str(name): str(value) for name, value in head["made"].items()}
     return Suite(str(path), str(head["profile"]), int(head["seed"] or 0), made, steps.Tables(tables), cases)

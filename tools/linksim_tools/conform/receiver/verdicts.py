@@ -1,5 +1,5 @@
-"""What may be the reason of what fails, a class each: when it holds (`of`), how soon it is asked for (`rank`), whether it explains
-all blocks (`fits`), and what it says."""
+"""What may be the reason of what fails, a class each: when it holds (`of`), how soon it is asked for (`rank`), whether its mistakes
+explain all blocks (`fits`), and what it says."""
 
 from __future__ import annotations
 
@@ -7,29 +7,33 @@ import dataclasses
 import typing
 
 from linksim_tools.conform import report as shared
-from linksim_tools.conform.receiver.mistakes import MISTAKES
-from linksim_tools.conform.receiver.mistakes.catalogue import STEPS
+from linksim_tools.conform.receiver import conditions, doubts, known_answers
+from linksim_tools.conform.receiver.evidence import Seen
+from linksim_tools.conform.receiver.mistakes import MISTAKES, STEPS
 
 if typing.TYPE_CHECKING:
     from linksim_tools.conform.files import Object
     from linksim_tools.conform.mistake import Mistake
-    from linksim_tools.conform.receiver.evidence import Seen
+    from linksim_tools.conform.receiver.answers import Answers
+    from linksim_tools.conform.receiver.diagnosis import Diagnosis
 
 # How many mistakes that fit are named.
 NAMED = 4
 NONE = "none of the listed mistakes"
+# A condition of a mistake that a mirror proves is told from so many others.
+PROVED = 3
 
 
 @dataclasses.dataclass
 class Verdict:
-    """What is said first, mistakes (singles or pairs of names), the cases whose blocks they do not give, and further lines."""
+    """What is said first, mistakes, the cases whose blocks they do not give, and further lines."""
 
     kind: typing.ClassVar[str] = ""
     rank: typing.ClassVar[int] = 0
     fits: typing.ClassVar[bool] = False
 
     said: str
-    names: list[tuple[str, ...]] = dataclasses.field(default_factory=list)
+    names: list[str] = dataclasses.field(default_factory=list)
     against: list[str] = dataclasses.field(default_factory=list)
     notes: typing.Sequence[str] = ()
     kinds: typing.Sequence[Mistake] = ()
@@ -39,11 +43,10 @@ class Verdict:
 
     @classmethod
     def of(cls, seen: Seen) -> Verdict | None:
-        """The verdict of what was seen, if it holds."""
+        """The verdict, if it holds of what is seen."""
         raise NotImplementedError
 
-    def before(self) -> typing.Iterator[str]:
-        """The lines before the mistakes."""
+    def says(self) -> typing.Iterator[str]:
         yield f"diagnosis: {self.said}"
         yield from (f"  {line}" for line in self.notes)
         for kind in self.kinds:
@@ -54,35 +57,27 @@ class Verdict:
         if len(self.names) > 1:
             said = f"answer {self.apart} too, and they may be told apart" if self.apart else "no case tells them apart"
             yield f"  {'each of these fits' if self.fits else 'these are equal'}; {said}:"
-
-    def after(self) -> typing.Iterator[str]:
-        """What to do next."""
+        for it in map(MISTAKES.__getitem__, self.names[:NAMED]):
+            yield f"  {it.name} ({it.clause}), {STEPS[it.step]}: {it.wrong}"
+            yield f"    change: {it.change}"
+        if len(self.names) > NAMED:
+            yield f"  and {len(self.names) - NAMED} more"
         if self.fits:
             yield "  one mistake can hide another: correct it, and run the suite again"
         elif self.next:
             yield f"  next: {self.next}"
 
-    def says(self) -> typing.Iterator[str]:
-        """All of its lines."""
-        yield from self.before()
-        for names in self.names[:NAMED]:
-            for it in map(MISTAKES.__getitem__, names):
-                yield f"  {it.name} ({it.clause}), {STEPS[it.step]}: {it.wrong}"
-                yield f"    change: {it.change}"
-            if len(names) > 1:
-                yield "    both together"
-        if len(self.names) > NAMED:
-            yield f"  and {len(self.names) - NAMED} more"
-        yield from self.after()
-
     def as_object(self) -> Object:
-        """The same as JSON has it."""
         keys = ("name", "step", "clause", "wrong", "change")
-        mistakes = [[{key: getattr(MISTAKES[name], key) for key in keys} for name in names] for names in self.names]
+        mistakes = [[{key: getattr(MISTAKES[name], key) for key in keys}] for name in self.names]
         kinds = [{key: getattr(it, key) for key in keys[1:]} for it in self.kinds]
         return {"kind": self.kind, "said": self.said, "fits": self.fits, "mistakes": mistakes, "of_a_kind": kinds,
                 "cases_not_given": self.against, "notes": list(self.notes), "told_apart_by": self.apart,
                 "cut_short": self.cut_short}
+
+
+def gives(names: list[str]) -> str:
+    return shared.what_gives([[name] for name in names])
 
 
 class Long(Verdict):
@@ -95,13 +90,12 @@ class Long(Verdict):
 
 
 class Changed(Verdict):
-    """All blocks that are delivered wrongly come from the right ones in one way."""
-
     kind, rank = "changed", 1
 
     @classmethod
     def of(cls, seen: Seen) -> Verdict | None:
-        return cls(f"each block that is delivered wrongly is the right one, but {seen.change}") if seen.change else None
+        change = conditions.change(seen.of.suite, seen.answers)
+        return cls(f"each block that is delivered wrongly is the right one, but {change}") if change else None
 
 
 class Gives(Verdict):
@@ -111,15 +105,15 @@ class Gives(Verdict):
 
     @classmethod
     def of(cls, seen: Seen) -> Verdict | None:
-        names: list[tuple[str, ...]] = [(it,) for it in seen.giving]
+        names, against = seen.giving, seen.against
         if not names:
             return None
-        but = f" but {len(seen.against)}: {shared.listed(seen.against)}" if seen.against else ""
         if len(seen.failing) == 1:
-            return cls(f"{shared.what_gives(names)} what the one case that fails shows, which is little to go by", names,
-                       seen.against, apart=seen.apart(seen.giving))
-        return cls(f"{shared.what_gives(names)} the blocks of all cases{but}", names, seen.against, seen.clash_note,
-                   apart=seen.apart(seen.giving))
+            said, notes = "what the one case that fails shows, which is little to go by", [""] * 0
+        else:
+            but = f" but {len(against)}: {shared.listed(against)}" if against else ""
+            said, notes = f"the blocks of all cases{but}", seen.clash_note
+        return cls(f"{gives(names)} {said}", names, against, notes, apart=seen.of.apart(names))
 
 
 class Right(Verdict):
@@ -136,13 +130,12 @@ class Depth(Verdict):
 
     @classmethod
     def of(cls, seen: Seen) -> Verdict | None:
-        return cls(f"{seen.depth}: too few iterations, or messages that die out since they are scaled and rounded down; "
-                   "round to the nearest, or try a larger --level") if seen.depth else None
+        lost = doubts.of_depth(seen.of, seen.failing)
+        return cls(f"{lost}: too few iterations, or messages that die out since they are scaled and rounded down; "
+                       "round to the nearest, or try a larger --level") if lost else None
 
 
 class Kinds(Verdict):
-    """Mistakes of a kind give all that was answered."""
-
     kind, rank = "kinds", 5
 
     @classmethod
@@ -151,24 +144,35 @@ class Kinds(Verdict):
 
 
 class Proved(Verdict):
-    """A mirror is delivered, which proves its mistake under a condition, or one like it."""
+    """A mirror is delivered, which proves its mistake under a condition, or one like it. Of all such mistakes those are told that
+    explain most of these mirrors, then most cases, and are spared least: they would change few cases that are right."""
 
     kind, rank = "proved", 6
 
     @classmethod
     def of(cls, seen: Seen) -> Verdict | None:
-        proof = seen.proof
-        if not proof:
+        of, cases = seen.of, seen.of.suite.cases
+        mirrors = {name for name in seen.failing if cases[name].case.mirror and of.delivers(name)}
+        given = {it: [name for name in seen.failing if of.agrees(cases[name].answers(it)[0], name)]
+                 for it in {it for name in mirrors for it in cases[name].wrong}}
+        given = {it: names for it, names in given.items() if mirrors.intersection(names)}
+        if not given:
             return None
-        names: list[tuple[str, ...]] = [(it,) for it in proof.names]
-        mirrors = shared.listed(proof.mirrors)
-        if proof.condition and not proof.others:
-            said = f"{shared.what_gives(names)} all that fails, {proof.condition.line('others that it would change')}"
-            return cls(said, names, notes=[f"it is proved by what is delivered: {mirrors}"], apart=seen.apart(proof.names))
+        spared = {it: [name for name in of.judged if name not in seen.failing and it in cases[name].wrong
+                       and not cases[name].answers(it)[1] and not of.agrees(cases[name].answers(it)[0], name)] for it in given}
+        keys = {it: (len(mirrors.intersection(names)), len(names), -len(spared[it])) for it, names in given.items()}
+        names = [it for it in MISTAKES if it in given and keys[it] == max(keys.values())]
+        first, apart, steps = names[0], of.apart(names), sorted({MISTAKES[it].step for it in names})
+        condition = conditions.common_of(of.suite, of.judged).condition(given[first], spared[first], steps, PROVED)
+        delivered = shared.listed([it for it in given[first] if it in mirrors])
+        others = [it for it in seen.failing if it not in given[first]]
+        if condition and not others:
+            said = f"{gives(names)} all that fails, {condition.line('others that it would change')}"
+            return cls(said, names, notes=[f"it is proved by what is delivered: {delivered}"], apart=apart)
         notes = [f"{shared.counted(len(some), 'case')} {words}: {shared.listed(some)}" for some, words in (
-            (proof.spared, "that it would change are right"), (proof.others, "that fail are not explained by it")) if some]
-        said = f"a mistake like {proof.names[0]}, or {proof.names[0]} under a condition, since this is delivered: {mirrors}"
-        return cls(said, names, proof.others, [*notes, *seen.lines], apart=seen.apart(proof.names), next=seen.next)
+            (spared[first], "that it would change are right"), (others, "that fail are not explained by it")) if some]
+        said = f"a mistake like {first}, or {first} under a condition, since this is delivered: {delivered}"
+        return cls(said, names, others, [*notes, *seen.lines], apart=apart, next=seen.next)
 
 
 class Few(Verdict):
@@ -176,28 +180,28 @@ class Few(Verdict):
 
     @classmethod
     def of(cls, seen: Seen) -> Verdict | None:
-        if 10 * seen.delivered >= seen.due:
+        due = seen.of.due()
+        delivered = len(due) - due.count(known_answers.NONE)
+        if 10 * delivered >= len(due):
             return None
-        names: list[tuple[str, ...]] = [(it,) for it in seen.losing]
-        lose = [f"{' and '.join(it for it, in names[:NAMED])} would lose the same blocks:"] if names else []
-        return cls(f"it delivers next to nothing: {seen.delivered} of {seen.due} blocks that are due", names,
-                   notes=[*seen.lines, *lose],
-                   next="look at one small case: the sign of its values (--positive), the shift table that it reads, its CRC")
+        lose = [f"{' and '.join(seen.losing[:NAMED])} would lose the same blocks:"] if seen.losing else []
+        return cls(f"it delivers next to nothing: {delivered} of {len(due)} blocks that are due", seen.losing,
+                       notes=[*seen.lines, *lose],
+                       next="look at one small case: the sign of its values (--positive), the shift table that it reads, its CRC")
 
 
 class Loses(Verdict):
-    """Mistakes lose the same blocks, and nothing else is seen of them."""
-
     kind, rank, fits = "loses", 8, True
 
     @classmethod
     def of(cls, seen: Seen) -> Verdict | None:
-        if not seen.losing or len(seen.failing) == 1 or len(seen.against) > 1:
+        names = seen.losing
+        if not names or len(seen.failing) == 1 or len(seen.against) > 1:
             return None
         but = f" but {seen.against[0]}" if seen.against else ""
         notes = ["nothing else that was answered shows this mistake for sure", *seen.lines, *seen.clash_note]
-        return cls(f"it loses the same blocks as a receiver with {seen.losing[0]} does, in all cases{but}",
-                   [(it,) for it in seen.losing], seen.against, notes, apart=seen.apart(seen.losing))
+        return cls(f"it loses the same blocks as a receiver with {names[0]} does, in all cases{but}", names, seen.against, notes,
+                       apart=seen.of.apart(names))
 
 
 class Described(Verdict):
@@ -215,15 +219,15 @@ class Unexplained(Verdict):
 
     @classmethod
     def of(cls, seen: Seen) -> Verdict | None:
-        said = f"{NONE} gives these answers"
-        return cls(said, notes=seen.common, next=seen.next)
+        of, steps = seen.of, sorted({seen.of.suite.cases[name].case.step for name in seen.failing})
+        others = [name for name in of.judged if name not in seen.failing]
+        common = conditions.common_of(of.suite, of.judged).shared_by(seen.failing, others, steps)
+        return cls(f"{NONE} gives these answers", notes=common, next=seen.next)
 
 
-RANKED: list[type[Verdict]] = sorted(
-    (Long, Changed, Gives, Right, Depth, Kinds, Proved, Few, Loses, Described, Unexplained), key=lambda it: it.rank)
-
-
-def verdict(seen: Seen) -> Verdict:
+def verdict(of: Diagnosis, answers: Answers) -> Verdict:
     """The first verdict that holds, and whether what was searched before it was cut short."""
-    found = next(found for found in (kind.of(seen) for kind in RANKED) if found)
+    seen = Seen(of, answers)
+    ranked = sorted(Verdict.__subclasses__(), key=lambda it: it.rank)
+    found = next(found for found in (kind.of(seen) for kind in ranked) if found)
     return dataclasses.replace(found, cut_short=seen.cut_short)

@@ -1,24 +1,34 @@
-"""Mistakes that no list has, by their kind; each is tried as a listed one is."""
+"""Mistakes that no list has, by their kind: too few bits, another formula, another limit, another order. Each is tried as a
+listed one is."""
 
 from __future__ import annotations
 
-import functools
+import dataclasses
 import typing
 
-from linksim_tools.conform.encoder.families import crcs, limits, numbers, orders, rows, state
-from linksim_tools.conform.mistake import Mistake
+from linksim_tools.conform.clauses import Clauses
+from linksim_tools.conform.mistake import Method, Mistake
 
-if typing.TYPE_CHECKING:
-    from linksim_tools.conform.encoder.judging import Trial
-    from linksim_tools.conform.encoder.suite import Suite
-
-
-@functools.lru_cache(maxsize=1)
-def always() -> tuple[Mistake, ...]:
-    """Those that need no suite."""
-    return (*crcs.mistakes(), *numbers.mistakes(), *orders.mistakes(), *rows.mistakes())
+CLAUSES = {"crc": "5.1", "graph": "6.2.2, 7.2.2", "segmentation": "5.2.2", "codecrc": "5.2.2", "ldpc": "5.3.2", "buffer": "5.4.2.1",
+           "lengths": "5.4.2.1", "selection": "5.4.2.1", "interleaving": "5.4.2.2", "concatenation": "5.5"}
+Methods = typing.Dict[str, Method]
+# The steps in which a mistake can show by itself, the first one its own.
+Steps = typing.Tuple[str, ...]
 
 
-def mistakes(suite: Suite, trials: list[Trial]) -> list[Mistake]:
-    """All that a suite's cases may show."""
-    return [*limits.mistakes(trials), *always(), *state.mistakes_of(suite)]
+def mistake(name: str, step: str | Steps, wrong: str, change: str, methods: Methods) -> Mistake:
+    """A mistake that replaces these methods of the chain."""
+    first, *also = (step,) if isinstance(step, str) else step
+    return Mistake(name, first, tuple(also), CLAUSES[first], wrong, change, type("Made", (Clauses,), methods))
+
+
+def after(hook: str, change: Method) -> Methods:
+    """A method whose right value is changed; `change` is given that and what the method is given."""
+    right = getattr(Clauses, hook)
+    return {hook: lambda self, *given: change(right(self, *given), *given)}
+
+
+def told(**changes: Method) -> Methods:
+    """A case of which these settings are taken otherwise."""
+    return {"told": lambda _self, case, _before: dataclasses.replace(
+        case, **{name: change(getattr(case, name)) for name, change in changes.items()})}

@@ -6,9 +6,10 @@ import itertools
 import typing
 
 from linksim_tools.common.graphs import GRAPHS, STARTS
-from linksim_tools.conform.clauses import SETS, SIZES, Clauses
-from linksim_tools.conform.encoder.families.family import Method, after, mistake, told
-from linksim_tools.conform.mistake import Mistake
+from linksim_tools.conform.case import put
+from linksim_tools.conform.clauses import SETS, SIZES, Clauses, right
+from linksim_tools.conform.encoder.families import Methods, after, mistake, told
+from linksim_tools.conform.mistake import Method, Mistake
 
 # The numbers that a hook makes: their names and steps. A number of a case is one of several settings.
 HOOKS = {
@@ -20,17 +21,14 @@ SETTINGS = {"g": ("G", ("lengths",)), "lbrm": ("TBS_LBRM", ("buffer",)), "rate20
 WIDE = "keep all its bits"
 
 
-def cut(bits: int) -> typing.Callable[..., typing.Any]:
+def cut(bits: int) -> Method:
     """A number of so many bits."""
     return lambda value, *_: value if value is None else value % (1 << bits)
 
 
-def turned(bits: int) -> dict[str, Method]:
+def turned(bits: int) -> Methods:
     """A counter of places that begins again after so many bits."""
-    def ring(_self: Clauses, d: str, length: int) -> str:
-        return (d[:length] * (-(-(1 << bits) // length)))[: 1 << bits] if length < 1 << 24 else d[:length]
-
-    return {"ring": ring}
+    return after("ring", lambda ring, _d, length: (ring * (-(-(1 << bits) // length)))[: 1 << bits] if length < 1 << 24 else ring)
 
 
 def widths() -> typing.Iterator[Mistake]:
@@ -43,8 +41,7 @@ def widths() -> typing.Iterator[Mistake]:
                 yield mistake("too-few-bits", step, f"{name} keeps {bits} bits", WIDE, after(hook, cut(bits)))
         for field, (name, steps) in SETTINGS.items():
             yield mistake("too-few-bits", steps, f"{name} keeps {bits} bits", WIDE, told(**{field: cut(bits)}))
-        yield mistake("too-few-bits", "lengths", f"E_r keeps {bits} bits", WIDE,
-                      after("lengths", lambda found, *_, b=bits: [it % (1 << b) for it in found]))
+        yield mistake("too-few-bits", "lengths", f"E_r keeps {bits} bits", WIDE, each_length(cut(bits)))
         yield mistake("too-few-bits", "buffer", f"3 TBS_LBRM keeps {bits} bits", WIDE,
                       {"reference": lambda _self, lbrm, c, _count, b=bits: 3 * lbrm % (1 << b) // (2 * c)})
         yield mistake("too-few-bits", "buffer", f"the product of k0 with Ncb keeps {bits} bits", WIDE,
@@ -53,15 +50,16 @@ def widths() -> typing.Iterator[Mistake]:
             yield mistake("too-few-bits", "selection", f"the counter of places keeps {bits} bits", WIDE, turned(bits))
 
 
-Formula = typing.Tuple[str, typing.Callable[..., typing.Any]]
+# A number or a part of it by another formula, in words and as it is made.
+Formula = typing.Tuple[str, Method]
 
 # What may be done to any number after it is made.
 AFTER: tuple[Formula, ...] = (
     ("1 too many", lambda it, *_: it + 1), ("1 too few", lambda it, *_: it - 1), ("twice as much", lambda it, *_: 2 * it),
     ("half as much", lambda it, *_: it // 2), ("two thirds of it", lambda it, *_: 2 * it // 3),
     ("three quarters of it", lambda it, *_: 3 * it // 4), ("half as much again", lambda it, *_: 3 * it // 2),
-    ("8 times as much", lambda it, *_: 8 * it),
-    ("an 8th", lambda it, *_: it // 8), ("24 too many", lambda it, *_: it + 24), ("24 too few", lambda it, *_: it - 24),
+    ("8 times as much", lambda it, *_: 8 * it), ("an 8th", lambda it, *_: it // 8),
+    ("24 too many", lambda it, *_: it + 24), ("24 too few", lambda it, *_: it - 24),
     *((f"rounded down to a multiple of {n}", lambda it, *_, n=n: it // n * n) for n in (2, 4, 8, 16, 32, 64)),
     *((f"rounded up to a multiple of {n}", lambda it, *_, n=n: -(-it // n) * n) for n in (2, 4, 8, 16, 32, 64)),
 )
@@ -85,10 +83,9 @@ REFERENCES: tuple[Formula, ...] = (
     ("3 TBS_LBRM / (2 C), rounded to the nearest", lambda lbrm, c, _: (3 * lbrm + c) // (2 * c)),
     ("floor(TBS_LBRM / 2) 3 / C", lambda lbrm, c, _: lbrm // 2 * 3 // c),
     ("floor(floor(3 TBS_LBRM / 2) / C)", lambda lbrm, c, _: 3 * lbrm // 2 // c),
-    ("ceil(TBS_LBRM / C) 3 / 2", lambda lbrm, c, _: -(-lbrm // c) * 3 // 2),
-    ("2 TBS_LBRM / C", lambda lbrm, c, _: 2 * lbrm // c), ("3 TBS_LBRM / C", lambda lbrm, c, _: 3 * lbrm // c),
-    ("TBS_LBRM / (2 C)", lambda lbrm, c, _: lbrm // (2 * c)), ("TBS_LBRM", lambda lbrm, _c, _: lbrm),
-    ("4 TBS_LBRM / (3 C)", lambda lbrm, c, _: 4 * lbrm // (3 * c)),
+    ("ceil(TBS_LBRM / C) 3 / 2", lambda lbrm, c, _: -(-lbrm // c) * 3 // 2), ("2 TBS_LBRM / C", lambda lbrm, c, _: 2 * lbrm // c),
+    ("3 TBS_LBRM / C", lambda lbrm, c, _: 3 * lbrm // c), ("TBS_LBRM / (2 C)", lambda lbrm, c, _: lbrm // (2 * c)),
+    ("TBS_LBRM", lambda lbrm, _c, _: lbrm), ("4 TBS_LBRM / (3 C)", lambda lbrm, c, _: 4 * lbrm // (3 * c)),
     ("3 TBS_LBRM / (2 C) - 24", lambda lbrm, c, _: max(3 * lbrm // (2 * c) - 24, 1)),
     ("3 (TBS_LBRM + 24) / (2 C)", lambda lbrm, c, _: 3 * (lbrm + 24) // (2 * c)),
     ("3 TBS_LBRM / (2 (C + 1))", lambda lbrm, c, _: 3 * lbrm // (2 * (c + 1))),
@@ -117,9 +114,9 @@ BEGINS: tuple[Formula, ...] = (
 )
 
 
-def begun(formula: typing.Callable[..., int]) -> dict[str, Method]:
+def begun(formula: Method) -> Methods:
     """k0 by another formula."""
-    def start(self: Clauses, plan: typing.Any, length: int, version: int) -> int:
+    def start(self: Clauses, plan: typing.Any, length: int, version: int) -> typing.Any:
         numerators, columns = self.starts(plan.graph)
         return formula(numerators[version], columns, length, plan.z, plan)
 
@@ -132,15 +129,14 @@ def unit_of(case: typing.Any) -> int:
 
 # The parts of which lengths are composed, the right one first: the unit, of a case; to how many code blocks G is shared out, of C'
 # and C; how many are longer, of a case, the number of units, C' and C; which ones, of j, r, C' and their number.
-Part = typing.Tuple[str, typing.Callable[..., typing.Any]]
-UNITS: tuple[Part, ...] = (
+UNITS: tuple[Formula, ...] = (
     ("", unit_of), ("the unit is NL", lambda it: it.nl), ("the unit is Qm", lambda it: it.qm), ("the unit is 1", lambda _: 1),
     ("the unit is the larger of NL and Qm", lambda it: max(it.nl, it.qm)), ("the unit is 2 Qm", lambda it: 2 * it.qm),
     ("the unit is 8", lambda _: 8), ("the unit is 2 NL Qm", lambda it: 2 * unit_of(it))
 )
-COUNTED: tuple[Part, ...] = (("", lambda n, _: n), ("G is shared out to C", lambda _, c: c),
+COUNTED: tuple[Formula, ...] = (("", lambda n, _: n), ("G is shared out to C", lambda _, c: c),
                              ("G is shared out to C' + 1", lambda n, _: n + 1))
-LONGER: tuple[Part, ...] = (
+LONGER: tuple[Formula, ...] = (
     ("", lambda it, units, n, c: units % n),
     *((f"mod({name}, {words}) are longer", lambda it, units, n, c, of=of, by=by: of(it) % by(n, c))
       for name, of in (("G", lambda it: it.g), ("G / Qm", lambda it: it.g // it.qm), ("G / NL", lambda it: it.g // it.nl),
@@ -152,56 +148,60 @@ LONGER: tuple[Part, ...] = (
     ("one fewer is longer", lambda it, units, n, c: max(units % n - 1, 0)), ("all are longer", lambda it, units, n, c: n),
     ("C' - mod(G / (NL Qm), C') are longer", lambda it, units, n, c: n - units % n),
 )
-WHICH: tuple[Part, ...] = (
+WHICH: tuple[Formula, ...] = (
     ("", lambda j, r, n, longer: j >= n - longer), ("the longer ones come first", lambda j, r, n, longer: j < longer),
     ("j is the number r", lambda j, r, n, longer: r >= n - longer), ("the longer ones have odd j", lambda j, r, n, longer: j % 2),
     ("the longer ones have even j", lambda j, r, n, longer: j % 2 == 0),
     ("the longer ones begin at j = 1", lambda j, r, n, longer: 1 <= j <= longer),
 )
-UPS: tuple[Part, ...] = (("", lambda least, rest: least + 1),
+UPS: tuple[Formula, ...] = (("", lambda least, rest: least + 1),
                          ("the longer length is the ceiling", lambda least, rest: least + (rest > 0)),
                          ("the longer ones have two units more", lambda least, rest: least + 2))
 
 
-def composed(unit: Part, counted: Part, longer: Part, which: Part, up: Part) -> dict[str, Method]:
+def composed(*parts: Formula) -> Methods:
     """E_r of these parts."""
+    unit, counted, longer, which, up = (made for _, made in parts)
+
     def lengths(_self: Clauses, case: typing.Any, c: int, chosen: list[int]) -> list[int]:
-        size, n = unit[1](case), len(chosen)
-        units = case.g // size
-        least, rest = divmod(units, counted[1](n, c))
-        count, found = longer[1](case, units, counted[1](n, c), c), [0] * c
+        size, n = unit(case), len(chosen)
+        units, count = case.g // size, counted(n, c)
+        least, rest = divmod(units, count)
+        more, found = longer(case, units, count, c), [0] * c
         for j, r in enumerate(chosen):
-            found[r] = (up[1](least, rest) if which[1](j, r, n, count) else least) * size
+            found[r] = (up(least, rest) if which(j, r, n, more) else least) * size
         return found
 
     return {"lengths": lengths}
 
 
-def shares() -> typing.Iterator[tuple[str, dict[str, Method]]]:
+def shares() -> typing.Iterator[tuple[str, Methods]]:
     """E_r with one part or two that are other ones, in words with the methods."""
-    parts: tuple[tuple[Part, ...], ...] = (UNITS, COUNTED, LONGER, WHICH, UPS)
+    parts: tuple[tuple[Formula, ...], ...] = (UNITS, COUNTED, LONGER, WHICH, UPS)
     for places in (*itertools.combinations(range(len(parts)), 1), *itertools.combinations(range(len(parts)), 2)):
         for others in itertools.product(*(parts[place][1:] for place in places)):
             chosen = [it[0] for it in parts]
             for place, other in zip(places, others):
                 chosen[place] = other
             yield ", ".join(words for words, _ in others), composed(*chosen)
-    yield "the last code block has all that is left over", {"lengths": rest_last(-1)}
-    yield "the first code block has all that is left over", {"lengths": rest_last(0)}
+    yield "the last code block has all that is left over", rest_at(-1)
+    yield "the first code block has all that is left over", rest_at(0)
     for words, change in (("up", lambda it: -(-it // 8) * 8), ("down", lambda it: it // 8 * 8)):
-        yield f"E_r is rounded {words} to whole octets", after("lengths", lambda found, *_, change=change: [*map(change, found)])
+        yield f"E_r is rounded {words} to whole octets", each_length(change)
 
 
-def rest_last(place: int) -> Method:
+def each_length(change: Method) -> Methods:
+    return after("lengths", lambda found, *_: [*map(change, found)])
+
+
+def rest_at(place: int) -> Methods:
     """E_r with all that is left over in one code block."""
     def lengths(self: Clauses, case: typing.Any, c: int, chosen: list[int]) -> list[int]:
         unit = self.unit(case)
         least, rest = divmod(case.g // unit, len(chosen))
-        found = [least * unit if r in chosen else 0 for r in range(c)]
-        found[chosen[place]] += rest * unit
-        return found
+        return [(least * (r in chosen) + rest * (r == chosen[place])) * unit for r in range(c)]
 
-    return lengths
+    return {"lengths": lengths}
 
 
 def taken_as() -> typing.Iterator[Mistake]:
@@ -228,39 +228,35 @@ COUNTS: tuple[Formula, ...] = (
 PARTS: tuple[Formula, ...] = (("ceil(B / C) + L", lambda b, c, l: -(-b // c) + l), ("floor(B / C)", lambda b, c, _: b // c),
                               ("floor(B / C) + L, rounded up to octets", lambda b, c, l: -(-(b // c + l) // 8) * 8))
 SIZED: tuple[Formula, ...] = (
-    ("the least Zc with 22 Zc >= K'", lambda _g, _kb, kdash: next(z for z in SIZES if 22 * z >= kdash or z == 384)),
-    ("the least Zc with 10 Zc >= K'", lambda _g, _kb, kdash: next(z for z in SIZES if 10 * z >= kdash or z == 384)),
-    ("the least Zc with Kb Zc >= K' + 24", lambda _g, kb, kdash: next(z for z in SIZES if kb * z >= kdash + 24 or z == 384)),
-    ("the least Zc with Kb Zc >= K' - 24", lambda _g, kb, kdash: next(z for z in SIZES if kb * z >= kdash - 24 or z == 384)),
-    ("the least Zc with Kb Zc >= K' - 16", lambda _g, kb, kdash: next(z for z in SIZES if kb * z >= kdash - 16 or z == 384)),
+    *((f"the least Zc with {n} Zc >= K'", lambda graph, _kb, kdash, n=n: right().lifting_size(graph, n, kdash)) for n in (22, 10)),
+    *((f"the least Zc with Kb Zc >= K' {words}", lambda graph, kb, kdash, by=by: right().lifting_size(graph, kb, kdash + by))
+      for words, by in (("+ 24", 24), ("- 24", -24), ("- 16", -16))),
     ("the largest Zc with Kb Zc <= K'", lambda _g, kb, kdash: next((z for z in SIZES[::-1] if kb * z <= kdash), 2)),
 )
 
 
+def instead(hook: str) -> typing.Callable[[Method], Methods]:
+    """A method by a formula of what it is given."""
+    return lambda formula: {hook: lambda _self, *given: formula(*given)}
+
+
+def several(formula: Method) -> Methods:
+    """C by another formula if there are several code blocks."""
+    return {"count": lambda _self, b, most, l, there: formula(b, most, l) if there else 1}
+
+
 def formulas() -> typing.Iterator[Mistake]:
-    """Numbers by other formulas."""
-    for hook, name, step, table, right in (
-        ("reference", "Nref", "buffer", REFERENCES, "floor(3 TBS_LBRM / (2 C))"),
-        ("count", "C", "segmentation", COUNTS, "ceil(B / (Kcb - 24))"),
-        ("bits_of_code_block", "K'", "segmentation", PARTS, "(B + C L) / C"),
-        ("lifting_size", "Zc", "segmentation", SIZED, "the least Zc with Kb Zc >= K'"),
+    for name, step, clause, table, by in (
+        ("Nref", "buffer", "floor(3 TBS_LBRM / (2 C))", REFERENCES, instead("reference")),
+        ("C", "segmentation", "ceil(B / (Kcb - 24))", COUNTS, several),
+        ("K'", "segmentation", "(B + C L) / C", PARTS, instead("bits_of_code_block")),
+        ("Zc", "segmentation", "the least Zc with Kb Zc >= K'", SIZED, instead("lifting_size")),
+        ("k0", "buffer", "floor(number Ncb / (columns Zc)) Zc", BEGINS, begun),
     ):
         for words, formula in table:
-            if hook == "count":
-                yield mistake("other-formula", step, f"{name} is {words}", right, {hook: several(formula)})
-            else:
-                yield mistake("other-formula", step, f"{name} is {words}", right, {hook: lambda _self, *it, f=formula: f(*it)})
-    right = "floor(number Ncb / (columns Zc)) Zc"
-    for words, formula in BEGINS:
-        yield mistake("other-formula", "buffer", f"k0 is {words}", right, begun(formula))
-    for words, methods in shares():
-        right = "E_r = NL Qm floor(G / (NL Qm C')), of the last mod(G / (NL Qm), C') one unit more"
-        yield mistake("other-formula", "lengths", words, right, methods)
-
-
-def several(formula: typing.Callable[[int, int, int], int]) -> Method:
-    """C by another formula if there are several code blocks."""
-    return lambda _self, b, most, l, there: formula(b, most, l) if there else 1
+            yield mistake("other-formula", step, f"{name} is {words}", clause, by(formula))
+    clause = "E_r = NL Qm floor(G / (NL Qm C')), of the last mod(G / (NL Qm), C') one unit more"
+    yield from (mistake("other-formula", "lengths", words, clause, methods) for words, methods in shares())
 
 
 def changed() -> typing.Iterator[Mistake]:
@@ -290,7 +286,7 @@ def exchanged() -> typing.Iterator[Mistake]:
             "set_index": lambda _self, z, s=swap: s.get(SETS[z], SETS[z])})
     for graph, (numbers, columns) in STARTS.items():
         for version, other in itertools.product(range(4), range(columns)):
-            changed = (*numbers[:version], other, *numbers[version + 1 :])
+            changed = put(numbers, version, other)
             if changed != numbers:
                 said = f"k0 of rv = {version} by base graph {graph} is not made of {numbers[version]}: {other}"
                 yield mistake("k0-begins", "buffer", said, "Table 5.4.2.1-2", {
@@ -302,9 +298,4 @@ def exchanged() -> typing.Iterator[Mistake]:
 
 
 def mistakes() -> typing.Iterator[Mistake]:
-    """All of them."""
-    yield from widths()
-    yield from formulas()
-    yield from changed()
-    yield from exchanged()
-    yield from taken_as()
+    return itertools.chain(widths(), formulas(), changed(), exchanged(), taken_as())

@@ -2,29 +2,27 @@
 
 from __future__ import annotations
 
+import itertools
 import typing
 
 from linksim_tools.common.graphs import GRAPHS, LARGEST
 from linksim_tools.conform import bits as lists
+from linksim_tools.conform.case import Plan, Row, put
 from linksim_tools.conform.clauses import Clauses
-from linksim_tools.conform.encoder.families.family import Method, mistake
+from linksim_tools.conform.encoder.families import Methods, mistake
 from linksim_tools.conform.mistake import Mistake
 
-if typing.TYPE_CHECKING:
-    from linksim_tools.conform.case import Plan, Row
 
-
-def table(change: typing.Callable[[int, int, int, int], int | None], known: int = 4) -> dict[str, Method]:
+def table(change: typing.Callable[[int, int, int, int], int | None], known: int = 4) -> Methods:
     """Other values of the entries of information columns and of the first `known` parity columns, of a value, its set, row and
     column. None leaves an entry out."""
     def read(_self: Clauses, rows: list[Row], graph: int, index: int) -> list[Row]:
-        found: list[Row] = [[] for _ in rows]
+        found: list[Row] = []
         for row, entries in enumerate(rows):
             last = GRAPHS[graph].information + known * (row >= 4)
-            for column, values in entries:
-                value = change(values[index], index, row, column) if column < last else values[index]
-                if value is not None:
-                    found[row].append((column, (*values[:index], value, *values[index + 1 :])))
+            made = ((column, values, change(values[index], index, row, column) if column < last else values[index])
+                    for column, values in entries)
+            found.append([(column, put(values, index, value)) for column, values, value in made if value is not None])
         return found
 
     return {"read": read}
@@ -42,7 +40,6 @@ def rows_lost() -> typing.Iterator[Mistake]:
 
 
 def columns_lost() -> typing.Iterator[Mistake]:
-    """Columns whose entries are left out."""
     for column in range(26):
         for last in (*(column + width - 1 for width in (1, 2, 4, 8)), 99):
             said = f"s from {column} on" if last == 99 else f"s {column} to {last}" if last > column else f" {column}"
@@ -74,22 +71,22 @@ BITS: tuple[tuple[str, typing.Callable[[str, int], str]], ...] = (
 )
 
 
+def parity(change: typing.Callable[[str, int], str], skipped: int) -> Methods:
+    """Other bits of the parity columns but the first ones."""
+    def sent_columns(_self: Clauses, word: str, plan: Plan) -> str:
+        first = plan.k + skipped * plan.z
+        found = word[:first] + "".join(change(column, plan.z) for column in lists.words_of(word[first:], plan.z))
+        return Clauses.sent_columns(_self, found, plan)
+
+    return {"sent_columns": sent_columns}
+
+
 def bits_lost() -> typing.Iterator[Mistake]:
     """Bits of each parity column, or of each but the first four."""
     for words, change in BITS:
         for name, skipped in (("each parity column", 0), ("each parity column of the extension", 4)):
-            def sent_columns(_self: Clauses, word: str, plan: Plan, change: typing.Callable[[str, int], str] = change,
-                             skipped: int = skipped) -> str:
-                z, first = plan.z, plan.k + skipped * plan.z
-                parity = "".join(change(word[at : at + z], z) for at in range(first, len(word), z))
-                return (word[:first] + parity)[2 * z : 2 * z + plan.n]
-
-            yield mistake("column-bits", "ldpc", f"of {name}: {words}", "all Zc bits of a column", {"sent_columns": sent_columns})
+            yield mistake("column-bits", "ldpc", f"of {name}: {words}", "all Zc bits of a column", parity(change, skipped))
 
 
 def mistakes() -> typing.Iterator[Mistake]:
-    """All of them."""
-    yield from rows_lost()
-    yield from columns_lost()
-    yield from values_changed()
-    yield from bits_lost()
+    return itertools.chain(rows_lost(), columns_lost(), values_changed(), bits_lost())

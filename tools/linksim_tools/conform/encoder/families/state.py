@@ -7,34 +7,43 @@ import functools
 import typing
 
 from linksim_tools.conform import bits as lists
+from linksim_tools.conform.case import Case, Plan
 from linksim_tools.conform.clauses import Clauses, right
 from linksim_tools.conform.code import encoder_of
-from linksim_tools.conform.encoder.families.family import Method, mistake
+from linksim_tools.conform.encoder.families import Methods, Steps, mistake
 from linksim_tools.conform.encoder.points import Facts
+from linksim_tools.conform.encoder.suite import Suite
 from linksim_tools.conform.mistake import Mistake
 
-if typing.TYPE_CHECKING:
-    from linksim_tools.conform.case import Case
-    from linksim_tools.conform.encoder.suite import Suite
-
 # Settings that may be those of the case before, with the steps that take them.
-SETTINGS: dict[str, tuple[str, tuple[str, ...]]] = {
+SETTINGS: dict[str, tuple[str, Steps]] = {
     "rv": ("rv", ("buffer",)), "qm": ("Qm", ("lengths", "interleaving")), "nl": ("NL", ("lengths",)),
     "lbrm": ("TBS_LBRM", ("buffer",)), "mask": ("the mask of code blocks", ("lengths", "buffer")),
     "rate2048": ("R", ("graph",)), "g": ("G", ("lengths",)),
 }
-CHANGE = "set it anew for each case"
+
+# Numbers that may be, by their methods: what they are, their step, and what is left, of a new value, the case before and what the
+# method is given. Of E_r only as many are left, and of Ncb at most the N that is given.
+NUMBERS: tuple[tuple[str, str, str, typing.Callable[..., typing.Any]], ...] = (
+    ("start", "k0 is that of the case before", "buffer", lambda _new, old, *_: old.k0),
+    ("buffer_length", "Ncb is that of the case before", "buffer", lambda _new, old, *_: old.ncb),
+    ("base_graph", "the base graph is that of the case before", "graph", lambda _new, old, *_: old.graph),
+    ("count", "C is that of the case before", "segmentation", lambda _new, old, *_: old.c),
+    ("filled_columns", "Kb is that of the case before", "segmentation", lambda _new, old, *_: old.plan.kb),
+    ("set_index", "the set index is that of the case before", "segmentation", lambda _new, old, *_: old.plan.set),
+    ("lifting_size", "Zc is that of the case before", "segmentation", lambda _new, old, *_: old.z),
+    ("buffer_length", "Ncb is that of the case before, or N if that is less", "buffer",
+     lambda _new, old, _plan, most, *_: min(old.ncb, most)),
+    ("lengths", "E_r are those of the case before, if it has as many", "lengths",
+     lambda new, old, *_: old.lengths if len(old.lengths) == len(new) else new),
+)
 
 # No more octets of code blocks are kept.
 MOST = 1 << 22
 
 
-def setting(name: str) -> dict[str, Method]:
-    """A setting of the case before."""
-    def told(_self: Clauses, case: Case, before: Case | None) -> Case:
-        return dataclasses.replace(case, **{name: getattr(before, name)}) if before else case
-
-    return {"told": told}
+def setting(name: str) -> Methods:
+    return {"told": lambda _self, case, before: dataclasses.replace(case, **{name: getattr(before, name)}) if before else case}
 
 
 @functools.lru_cache(maxsize=2048)
@@ -42,9 +51,8 @@ def facts_of(case: Case) -> Facts:
     return Facts(case)
 
 
-def number(hook: str, read: typing.Callable[[Facts], typing.Any], *, is_same_length: bool = False,
-           at_most_given: bool = False) -> dict[str, Method]:
-    """A number of the case before; of lists only those of one length, of Ncb at most the N that is given."""
+def number(hook: str, left: typing.Callable[..., typing.Any]) -> Methods:
+    """A number of the case before."""
     right = getattr(Clauses, hook)
 
     def told(self: typing.Any, case: Case, before: Case | None) -> Case:
@@ -53,9 +61,7 @@ def number(hook: str, read: typing.Callable[[Facts], typing.Any], *, is_same_len
 
     def made(self: typing.Any, *given: typing.Any) -> typing.Any:
         value = right(self, *given)
-        old = read(facts_of(self.before)) if self.before else value
-        old = min(old, given[1]) if at_most_given else old
-        return old if not is_same_length or len(old) == len(value) else value
+        return left(value, facts_of(self.before), *given) if self.before else value
 
     return {"told": told, hook: made}
 
@@ -71,77 +77,59 @@ def uncleared(suite: Suite) -> dict[str, str]:
     return found
 
 
-def register(suite: Suite) -> dict[str, Method]:
+def register(suite: Suite) -> Methods:
     """The register of the transport block's CRC begins with what the case before left there."""
     def told(self: typing.Any, case: Case, _before: Case | None) -> Case:
         self.id = case.id
         return case
 
-    def attached(self: typing.Any, a: str) -> str:
-        return a + uncleared(suite)[self.id]
-
-    return {"told": told, "attached": attached}
+    return {"told": told, "attached": lambda self, a: a + uncleared(suite)[self.id]}
 
 
-def in_one(kept: typing.Callable[[str, str, int], str], suite: Suite) -> dict[str, str]:
-    """The old bits in the places of fillers, by the bits of a code block, of one memory. What is kept there is made of what there
-    was, of the bits and of their number."""
-    memory, found = "", {}
-    for values in suite.values.values():
-        plan = values.plan
-        for bits in values.bits if plan.c * plan.k < MOST else []:
-            found[bits] = memory[plan.kdash : plan.k].ljust(plan.fillers, "0")
-            memory = kept(memory, bits, plan.kdash)
-    return found
+# What one memory keeps of a code block: of what there was, the bits, their old fillers, the plan and the suite.
+Kept = typing.Callable[[str, str, str, "Plan", "Suite"], str]
 
 
-def whole_words(suite: Suite) -> dict[str, str]:
-    """The same if whole codewords follow each other in one memory, with what the old bits make of their parity."""
+def whole_word(memory: str, bits: str, old: str, plan: Plan, suite: Suite) -> str:
+    """The whole codeword of old bits, and what there was after it."""
+    columns = encoder_of(right(), suite.tables, plan.graph, plan.z, plan.set).columns(bits + old)
+    return "".join(f"{it:0{plan.z}b}" for it in columns) + memory[len(columns) * plan.z :]
+
+
+def left_by(kept: Kept, suite: Suite) -> dict[str, str]:
+    """The old bits in the places of fillers, by the bits of a code block, of one memory that keeps this of each code block."""
     memory, found, work = "", {}, 0
     for values in suite.values.values():
         plan = values.plan
-        work += plan.c * (plan.k + plan.n)
+        work = work + plan.c * (plan.k + plan.n) if kept is whole_word else plan.c * plan.k
         for bits in values.bits if work < MOST else []:
             found[bits] = memory[plan.kdash : plan.k].ljust(plan.fillers, "0")
-            columns = encoder_of(right(), suite.tables, plan.graph, plan.z, plan.set).columns(bits + found[bits])
-            memory = "".join(f"{it:0{plan.z}b}" for it in columns) + memory[len(columns) * plan.z :]
+            memory = kept(memory, bits, found[bits], plan, suite)
     return found
 
 
-def fillers(memory: typing.Callable[[], dict[str, str]]) -> dict[str, Method]:
-    """Parity of old bits in the places of fillers."""
-    def filled(_self: Clauses, bits: str, found: str) -> str:
-        return bits + (memory().get(bits, found) if found.strip("0") == "" else found)
+MEMORIES: tuple[tuple[Kept, str], ...] = (
+    (lambda memory, bits, _old, plan, _suite: bits + memory[plan.kdash :], "in one memory"),
+    (lambda _memory, bits, *_: bits, "of the code block before"), (whole_word, "with parity bits, in one memory"),
+)
 
-    return {"filled": filled}
+
+def fillers(memory: typing.Callable[[], dict[str, str]]) -> Methods:
+    """Parity of old bits in the places of fillers."""
+    return {"filled": lambda _self, bits, found: bits + (memory().get(bits, found) if found.strip("0") == "" else found)}
 
 
 @functools.lru_cache(maxsize=4)
 def mistakes_of(suite: Suite) -> tuple[Mistake, ...]:
     """All of a suite, whose cases are asked in its order."""
-    found = [mistake("left-from-before", steps, f"{name} is that of the case before", CHANGE, setting(field))
+    change = "set it anew for each case"
+    found = [mistake("left-from-before", steps, f"{name} is that of the case before", change, setting(field))
              for field, (name, steps) in SETTINGS.items()]
-    for hook, name, step, read in (
-        ("start", "k0", "buffer", lambda it: it.k0), ("buffer_length", "Ncb", "buffer", lambda it: it.ncb),
-        ("base_graph", "the base graph", "graph", lambda it: it.graph), ("count", "C", "segmentation", lambda it: it.c),
-        ("filled_columns", "Kb", "segmentation", lambda it: it.plan.kb),
-        ("set_index", "the set index", "segmentation", lambda it: it.plan.set),
-        ("lifting_size", "Zc", "segmentation", lambda it: it.z),
-    ):
-        found.append(mistake("left-from-before", step, f"{name} is that of the case before", CHANGE, number(hook, read)))
-    found.append(mistake("left-from-before", "buffer", "Ncb is that of the case before, or N if that is less", CHANGE,
-                         number("buffer_length", lambda it: it.ncb, at_most_given=True)))
-    found.append(mistake("left-from-before", "lengths", "E_r are those of the case before, if it has as many", CHANGE,
-                         number("lengths", lambda it: it.lengths, is_same_length=True)))
+    found += [mistake("left-from-before", step, said, change, number(hook, left)) for hook, said, step, left in NUMBERS]
     found.append(mistake("left-from-before", "crc", "the register begins with the parity bits of the case before",
                          "begin with zeros", register(suite)))
-    memories: tuple[tuple[typing.Callable[[Suite], dict[str, str]], str], ...] = (
-        (functools.partial(in_one, lambda memory, bits, count: bits + memory[count:]), "in one memory"),
-        (functools.partial(in_one, lambda _memory, bits, _count: bits), "of the code block before"),
-        (whole_words, "with parity bits, in one memory"),
-    )
-    for memory, words in memories:
+    for kept, words in MEMORIES:
         said = f"the bits that are left in the places of fillers, {words}, are taken where parity is computed"
         found.append(mistake("left-from-before", "ldpc", said, "fillers count as zeros: clear their places for each code block",
-                             fillers(functools.lru_cache(None)(functools.partial(memory, suite)))))
+                             fillers(functools.lru_cache(None)(functools.partial(left_by, kept, suite)))))
     return tuple(found)
