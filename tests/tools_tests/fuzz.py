@@ -27,7 +27,7 @@ from linksim_tools.conform import code, files
 from linksim_tools.conform.encoder import commands as encoders
 from linksim_tools.conform.encoder import suite as own
 from linksim_tools.conform.receiver import commands as receivers
-from linksim_tools.conform.receiver import known_answers, keeping, steps, writing
+from linksim_tools.conform.receiver import known_answers, steps, writing
 from linksim_tools.conform.receiver.mistakes import MISTAKES
 from linksim_tools.conform.receiver.suite import Kept
 from linksim_tools.conform.receiver.reception import Arrival, Case
@@ -148,7 +148,7 @@ def receiver_suite(path: pathlib.Path) -> list[str]:
         case = Case(f"case-{len(lines)}", "decoder", "zeros", told, [values], ["0" * 24])
         found = known_answers.everyone(tables, [*list(MISTAKES)[:3]], case)
         right, clash = found.pop("")
-        lines.append(writing.line_of(Kept(case, right, ("open",), found, keeping.also(tables, case, right), clash)))
+        lines.append(writing.line_of(Kept(case, right, ("open",), found, known_answers.also(tables, case, right), clash)))
     head = {"receiver": files.FORMAT, "profile": "quick", "seed": 1, "made": {}, "table": code.records_of(entries)}
     return [json.dumps(head), *lines]
 

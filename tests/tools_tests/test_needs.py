@@ -25,10 +25,12 @@ for it; do :; done
 echo "$it" >> "$HAS/installed"
 if [ "$it" = daemon ]; then
     ln -s /dev/null "$HAS/units/multi-user.target.wants/daemon.service"
+    ln -s /dev/null "$HAS/rc2.d/S01daemon"
     [ ! -x "$HAS/policy" ] || echo "$HAS/policy" >> "$HAS/asked_policy"
 fi
 """,
     "deb-systemd-helper": '#!/bin/sh\n[ -n "$DPKG_MAINTSCRIPT_PACKAGE" ] && rm "$HAS/units/multi-user.target.wants/$2"\n',
+    "update-rc.d": '#!/bin/sh\n[ "$2" = disable ] && rm "$HAS/rc2.d/S01$1"\n',
 }
 HERE = "one | - | rtl\n"
 AWAY = "two | no-such-program | tools rtl\n"
@@ -51,12 +53,14 @@ class Needs(shared.InFolder):
         wants = self.folder / "units" / "multi-user.target.wants"
         wants.mkdir(parents=True)
         (wants / "older.service").symlink_to("/dev/null")
+        (self.folder / "rc2.d").mkdir()
+        (self.folder / "rc2.d" / "S01older").symlink_to("/dev/null")
 
     def run_needs(self, text: str, *words: str) -> tuple[int, list[str]]:
         (self.folder / "needs.txt").write_text(f"# some\n\n{text}")
         # No pause between the tries.
         script = (self.folder / "needs").read_text().replace("PATIENCE, PAUSE = 600, 5", "PATIENCE, PAUSE = 600, 0")
-        script = script.replace("/etc/systemd/system", str(self.folder / "units"))
+        script = script.replace("/etc/systemd/system", str(self.folder / "units")).replace('"/etc"', repr(str(self.folder)))
         script = script.replace("/usr/sbin/policy-rc.d", str(self.folder / "policy"))
         (self.folder / "needs").write_text(script)
         path = str(self.folder / "bin")
@@ -104,6 +108,7 @@ class Needs(shared.InFolder):
         want = [self.said("daemon"), "needs: daemon.service is installed, and neither started nor enabled"]
         self.assertEqual((status, lines), (0, [*want, "needs: 1 of 1 packages are there"]))
         self.assertEqual([it.name for it in self.folder.glob("units/*/*")], ["older.service"])
+        self.assertEqual([it.name for it in self.folder.glob("rc2.d/*")], ["S01older"])
         self.assertTrue((self.folder / "asked_policy").exists())
         self.assertFalse((self.folder / "policy").exists())
 
