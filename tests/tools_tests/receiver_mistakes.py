@@ -5,8 +5,8 @@ from __future__ import annotations
 
 import typing
 
-from linksim_tools.conform.receiver import elimination, known_answers, peeling, steps
-from linksim_tools.conform.receiver.chain import Process, Receiver
+from linksim_tools.conform.receiver import elimination, peeling, steps
+from linksim_tools.conform.receiver.chain import STEADY, Process, Receiver
 from linksim_tools.conform.receiver.reception import MODEL, Arrival, Level, translated
 from linksim_tools.conform.receiver.soft import Soft
 
@@ -233,9 +233,52 @@ class Once(Receiver):
         return None if had == str(id(process.first)) else bits
 
 
+class Block(Receiver):
+    """Keeps a block that was delivered until a fresh one begins, as TS 38.321, 5.3.2.2 has it: values are combined only while a
+    block is not decoded."""
+
+    def answered(self, process: Process, bits: str | None) -> str | None:
+        return bits or process.delivered
+
+
+class CodeBlocks(Block):
+    """Keeps each code block that passed too."""
+
+    def decoded_all(self, sizes: steps.Sizes, told: Arrival, process: Process) -> list[str]:
+        found = super().decoded_all(sizes, told, process)
+        if told.fresh:
+            process.passed.clear()
+        for r, it in enumerate(found):
+            if sizes.l and self.is_known(it) and self.fits_code_block(sizes, it):
+                process.passed.setdefault(r, it)
+        return [process.passed.get(r, it) for r, it in enumerate(found)]
+
+
+class Early(Receiver):
+    """Stops in the round in which a code block passes."""
+
+    def decoded(self, sizes: steps.Sizes, told: Arrival, process: Process, soft: Soft) -> str:
+        for self.rounds in range(STEADY + 1):
+            found = super().decoded(sizes, told, process, soft)
+            if self.is_known(found) and self.fits_code_block(sizes, found):
+                break
+        return found
+
+    def iterations(self) -> int | None:
+        return self.rounds
+
+
+class Clipped(Receiver):
+    """Keeps sums of 8 bits, which stop at the largest one."""
+
+    def stored(self, soft: Soft) -> Soft:
+        return Soft([max(-127, min(it, 127)) for it in soft])
+
+
 DESIGNS: dict[str, tuple[type[Receiver], Level]] = {
     "elimination": (Elimination, MODEL), "votes": (Votes, Level(1, 1)), "freed": (Freed, MODEL), "once": (Once, MODEL),
-    "keeps a block": (known_answers.Block, MODEL), "keeps code blocks": (known_answers.CodeBlocks, MODEL),
+    "keeps a block": (Block, MODEL), "keeps code blocks": (CodeBlocks, MODEL),
+    "stops early": (Early, MODEL), "clips sums": (Clipped, MODEL), "six bits": (Receiver, Level(31, 6)),
     "hard decisions": (Receiver, Level(1, 1)), "two bits": (Receiver, Level(1, 2)), "three bits": (Receiver, Level(3, 3)),
     "four bits": (Receiver, Level(7, 4)), "five bits": (Receiver, Level(15, 5)),
 }

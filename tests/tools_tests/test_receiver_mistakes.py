@@ -164,8 +164,9 @@ class HeldOut(unittest.TestCase):
         self.assertIn(f"  only {last} fails: ", "\n".join(found.says()))
 
     def test_soft_values_are_read(self) -> None:
-        """They show k0, which is judged as an encoder's is, and what else puts values elsewhere."""
+        """They show k0 and Ncb, which are judged as an encoder's are, and what else puts values elsewhere."""
         for name, said in (
+            ("ncb-whole-columns", "Ncb is 92, right is 94"), ("ncb-whole-columns", "Ncb is rounded down to a multiple of Zc"),
             ("k0-34-for-33", "k0 of rv = 2 by base graph 1 is not made of 33: 34"), ("rv-of-1-bit", "rv keeps 1 bit"),
             ("order-of-qm-8", "with its halves exchanged"), ("fillers-of-rv-0", "fillers are not passed over"),
         ):

@@ -127,8 +127,9 @@ class Asked(Run):
         self.assertEqual(len(receiver("points", suite_path())[1].splitlines()), 1 + len(suite().cases))
 
     def test_bounds(self) -> None:
-        """A suite has at most 330 cases and 2 million values, all contents are drawn, and a mirror is never delivered."""
+        """A suite has at most 330 cases and 2 million values, and no mirror is lacking or delivered."""
         cases = suite().cases.values()
+        self.assertEqual(sum(bool(kept.case.mirror) for kept in cases), 79)
         self.assertLessEqual(len(cases), 330)
         self.assertLessEqual(sum(kept.case.size for kept in cases), 2_000_000)
         for kept in cases:

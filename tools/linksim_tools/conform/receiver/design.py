@@ -76,8 +76,6 @@ def counted(items: typing.Iterable[Item], words: str, is_told: bool) -> typing.I
 
 def with_depth(tables: steps.Tables, case: Case) -> Case:
     """A case with the rounds that its last transmission takes of the deepest code block, if it is delivered."""
-    if case.rounds is not None:
-        return case
     receiver, told = Receiver(tables), case.arrivals[-1]
     *_, answer = receiver.answers(case)
     if answer.delivered is None or len(receiver.processes[told.process].soft or []) > 10:

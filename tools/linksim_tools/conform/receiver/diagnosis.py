@@ -7,6 +7,7 @@ import functools
 import typing
 
 from linksim_tools.conform.receiver import elimination, known_answers, steps
+from linksim_tools.conform.receiver.suite import either
 
 if typing.TYPE_CHECKING:
     from linksim_tools.conform.files import Object
@@ -60,7 +61,8 @@ class Diagnosis:
         for name, found in answers.items():
             kept = suite.cases[name]
             words = [words_of(*it) for it in zip(found, kept.case.meant, kept.case.arrivals)]
-            self.words[name] = [it and (*it[:3], None) if settled else it for it, settled in zip(words, kept.settled())]
+            # A receiver need not combine any more what belongs to a code block that has passed.
+            self.words[name] = [it and (*it[:3], None) if "1" in passed else it for it, passed in zip(words, kept.passed_before())]
             self.also[name] = self.accepted(name, found)
         names = sorted(self.words, key=lambda name: (suite.cases[name].case.size, name))
         self.judged = [name for name in names if suite.cases[name].known and not self.is_doubt(name)]
@@ -71,19 +73,23 @@ class Diagnosis:
         return [name for name in self.judged if self.fails(name)]
 
     def accepted(self, name: str, answers: typing.Sequence[Answer | None]) -> list[list[tuple[str, str]]]:
-        """What is accepted of each transmission beside what peeling finds. It is what receivers that keep something answer, and
-        what more is fixed by elimination. After a delivery nothing but a wrong block is wrong: the buffer may be freed, and a block
-        need be handed up once (TS 38.321, 5.3.2.2)."""
+        """What is accepted of each transmission beside what peeling finds: what more elimination fixes, and what is answered by one
+        that keeps code blocks that passed. After a delivery nothing but a wrong block is wrong: values are combined only while a
+        block is not decoded, the buffer may be freed, and a block need be handed up once (TS 38.321, 5.3.2.2)."""
         kept, words = self.suite.cases[name], self.words[name]
-        found = [list(it) for it in kept.also or [()] * len(words)]
+        found: list[list[tuple[str, str]]] = [[] for _ in words]
         more = [False] * len(words)
         if kept.known and any(
                 one not in (None, other) for right, word in self.answered([name]) for one, other in zip(word[:3], right)):
             more = elimination.accepted(self.suite.tables, kept.case, answers)
         delivered: set[int] = set()
-        for told, word, right, also, is_more in zip(kept.case.arrivals, words, kept.right, found, more):
+        each = zip(kept.case.arrivals, words, kept.right, kept.passed_before(), found, more)
+        for told, word, right, before, also, is_more in each:
             if told.fresh:
                 delivered.discard(told.process)
+            elif len(before) > 1:
+                passed = either(before, right[1])
+                also.append((right[0] if "0" in passed else known_answers.MEANT, passed))
             if word and (is_more or told.process in delivered and word[0] in (known_answers.NONE, known_answers.MEANT)):
                 also.append((word[0] or known_answers.NONE, word[1] or right[1]))
             if right[0] == known_answers.MEANT or is_more and word and word[0] != known_answers.NONE:

@@ -11,7 +11,7 @@ import math
 import random
 import typing
 
-from linksim_tools.conform.receiver import peeling, steps
+from linksim_tools.conform.receiver import steps
 from linksim_tools.conform.receiver.reception import Arrival
 
 if typing.TYPE_CHECKING:
@@ -230,40 +230,14 @@ class Draft:
         return ((t, number, place) for t, parts in enumerate(self.laid) for part in parts[r : r + 1]
                 for number, place in zip(part.numbers, part.places))
 
-    def differing(self, other: Draft) -> list[set[tuple[int, int]]]:
-        """The values, by transmission and number, that stand elsewhere in another draft of these transmissions, by code block."""
-        return [{(t, number) for t, number, _ in {*self.stand(r)} - {*other.stand(r)}} for r in range(self.sizes.c)]
-
-    def thinned(self, most: int, needed: list[set[tuple[int, int]]]) -> bool:
-        """Takes away what is more than there are information bits, a range of one column after another, as far as the rows still
-        find the block, and nothing that is needed. Says whether at most so many values of a code block are left over."""
-        rows, sizes, z = self.receiver.rows(self.sizes), self.sizes, self.sizes.z
-        for r in range(sizes.c):
-            there: dict[int, list[tuple[int, int, int]]] = {}
-            for t, number, place in self.stand(r):
-                if number in self.kept[t][r] and 0 <= place < sizes.size:
-                    there.setdefault(place // z, []).append((place, t, number))
-            known = peeling.columns_of("".join("01"[place in sizes.filled] for place in range(sizes.size)), z)
-            left = list(known)
-            for column, values in there.items():
-                left[column] |= sum(1 << z - 1 - place % z for place, *_ in values)
-            over = sum(map(len, there.values())) - len(sizes.info)
-            for turn, (column, values) in itertools.product((1, -1), sorted(there.items(), reverse=True)):
-                ordered = [it for it in sorted(values)[::turn] if it[2] in self.kept[it[1]][r] and it[1:] not in needed[r]]
-                low, high = 0, min(over, len(ordered))
-                while low < high:
-                    middle = (low + high + 1) // 2
-                    fewer = tuple(it & ~sum(1 << z - 1 - place % z for place, *_ in ordered[:middle]) if at == column else it
-                                  for at, it in enumerate(left))
-                    lost = any(peeling.peeled(rows, len(rows.rows), fewer, fewer).unknown[: sizes.k // z])
-                    low, high = (low, middle - 1) if lost else (middle, high)
-                for place, t, number in ordered[:low]:
-                    left[column] &= ~(1 << z - 1 - place % z)
-                    self.kept[t][r].discard(number)
-                over -= low
-            if over > most:
-                return False
-        return True
+    def moved(self, other: Draft) -> set[tuple[int, int]]:
+        """The columns, by transmission, of which some value stands elsewhere in another draft of these, or is another bit."""
+        found = set()
+        for r, (word, right) in enumerate(zip(self.words, other.words)):
+            there = {(t, number): (place, right[place : place + 1]) for t, number, place in other.stand(r)}
+            found |= {(t, place // self.sizes.z) for t, number, place in self.stand(r)
+                      if there.get((t, number)) != (place, word[place : place + 1])}
+        return found
 
     def slack(self) -> int:
         """How many values arrive that are more than the information bits."""

@@ -1,4 +1,4 @@
-"""What a receiver with each known mistake answers to a case, and what right ones do that keep what has passed."""
+"""What a receiver with each known mistake answers to a case."""
 
 from __future__ import annotations
 
@@ -8,7 +8,7 @@ import typing
 
 from linksim_tools.conform.clauses import right
 from linksim_tools.conform.receiver import steps
-from linksim_tools.conform.receiver.chain import Process, Receiver
+from linksim_tools.conform.receiver.chain import Receiver
 from linksim_tools.conform.receiver.mistakes import STEPS, receiver_with
 from linksim_tools.conform.receiver.reception import MODEL, Answer, Arrival, Case, Level, octets_of
 
@@ -23,8 +23,6 @@ NOTHING = Answer(None)
 
 # What is answered to the transmissions of a case, a word a level.
 Shown = typing.Tuple[typing.Tuple[str, ...], ...]
-# For each transmission of a case what is accepted too: the block, and which code blocks passed.
-Also = typing.Tuple[typing.Tuple[typing.Tuple[str, str], ...], ...]
 
 
 def digest(text: str) -> str:
@@ -87,36 +85,3 @@ def everyone(tables: steps.Tables, names: typing.Iterable[str], case: Case) -> d
         receiver = receiver_with(frozenset([name] if name else []))(tables)
         found[name] = tuple(map(shown, taken(receiver, case), case.meant, case.arrivals)), receiver.clash
     return found
-
-
-class Block(Receiver):
-    """Keeps a block that was delivered until a fresh one begins, as TS 38.321, 5.3.2.2 has it: values are combined only while a
-    block is not decoded. That is right too, so what it answers is accepted beside what the program proves."""
-
-    def answered(self, process: Process, bits: str | None) -> str | None:
-        return bits or process.delivered
-
-
-class CodeBlocks(Block):
-    """Keeps each code block that passed too."""
-
-    def decoded_all(self, sizes: steps.Sizes, told: Arrival, process: Process) -> list[str]:
-        found = super().decoded_all(sizes, told, process)
-        if told.fresh:
-            process.passed.clear()
-        for r, it in enumerate(found):
-            if sizes.l and self.is_known(it) and self.fits_code_block(sizes, it):
-                process.passed.setdefault(r, it)
-        return [process.passed.get(r, it) for r, it in enumerate(found)]
-
-
-def also(tables: steps.Tables, case: Case, right: Shown) -> Also:
-    """What receivers that keep something answer to a case, as far as it is not what a right one answers."""
-    found: list[dict[tuple[str, str], None]] = [{} for _ in case.arrivals]
-    for kind in (Block, CodeBlocks):
-        for accepted, told, meant, answer in zip(found, case.arrivals, case.meant, kind(tables).answers(case)):
-            block, passed, *_ = shown(answer, meant, told)
-            accepted[block, passed] = None
-            if block == MEANT:
-                accepted[block, "1" * len(passed)] = None
-    return tuple(tuple(it for it in accepted if it != words[:2]) for accepted, words in zip(found, right))

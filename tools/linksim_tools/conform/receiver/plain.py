@@ -13,7 +13,7 @@ from linksim_tools.conform.encoder.points import first_sizes
 from linksim_tools.conform.receiver import blocks, conditions, drafts, steps
 from linksim_tools.conform.receiver.drafts import Columns, Draft, Group
 from linksim_tools.conform.receiver.blocks import Maker, again, sized
-from linksim_tools.conform.receiver.reception import Arrival, Case, octets_of
+from linksim_tools.conform.receiver.reception import Arrival, Case
 
 # Sizes: a name, A and the code rate.
 SMALL = (
@@ -75,7 +75,7 @@ def of_several() -> typing.Iterator[Configuration]:
         yield f"three-then-{label}", sized(7656, 512, [0], 0.6, qm=2) + again(then, fresh=False)
     then = sized(7656, 512, [3], 1.9, qm=2, limit=62, mask=(1, 2))
     yield "three-limit-then-12", sized(7656, 512, [0], 0.97, qm=2, limit=62) + again(then, fresh=False)
-    yield "three-floor", [Arrival(7656, 512, 15004, 1, 3 * 6800, 2)]
+    yield "three-floor", [Arrival(7656, 512, 15004, 1, 3 * 7300, 2)]
     yield "two-floor", [Arrival(3832, 512, 10007, 1, 2 * 6600, 2)]
     yield "two-rate-511", sized(3832, 511, [0], 0.6, qm=2)
     yield "two-no-filler", sized(4088, 512, [0], 0.6, qm=2)
@@ -89,6 +89,8 @@ def configurations() -> typing.Iterator[Configuration]:
         yield f"{name}-rv0", sized(a, rate, [0], 0.99)
     for name, a, rate in (SMALL[0], SMALL[1], SMALL[5], SMALL[8]):
         yield from of_one_size(name, a, rate)
+    yield "a8-wrapped", sized(8, 2048, [0, 1], [0.5, 1.3])
+    yield from ((f"a8-rv1-limit{limit}", sized(8, 2048, [1], 0.97, limit=limit)) for limit in (65, 140))
     yield "a296-rate", sized(296, 2048, [0, 2], [0.5, 1.6])
     for name, a, rate in LARGE:
         yield f"{name}-rv0", sized(a, rate, [0], 0.9)
@@ -126,53 +128,18 @@ def plain(make: Maker, name: str, arrivals: list[Arrival], wanted: str) -> typin
     make.leave_out(f"{name}-{wanted}", steps.sizes(arrivals[0].a, arrivals[0].rate2048).graph)
 
 
-def rung(make: Maker, draft: Draft, values: str) -> Case | None:
-    """A case of one transmission, with how many iterations find its block, flooding and layer by layer; None if none do."""
-    receiver, told = make.receiver(), draft.arrivals[0]
-    receiver.take(told, octets_of(values))
-    need, = receiver.depths(told)
-    what = f"{need[0]} rounds of flooding, {need[1]} of layers" if need else ""
-    return need and Case(f"rounds-{need[0]}", "decoder", what, [told], [values], [draft.bits], rounds=need)
-
-
 def ladder(make: Maker, wanted: typing.Sequence[tuple[int, int]]) -> typing.Iterator[Case]:
-    """Cases that take so many rounds: how many iterations a receiver makes. Their columns are searched; if none take
-    so many, erasures are drawn that are next to those of which nothing more may be lost."""
+    """Cases whose columns take so many rounds: how many iterations a receiver makes."""
+    sizes = [it for it in SMALL if steps.sizes(*it[1:]).graph in make.tables.graphs()]
     for least, most in wanted:
-        found = next(by_columns(make, least, most), None) or next(by_draws(make, least, most), None)
+        tried = (make.whole(f"ladder {name}", sized(a, rate, [0], 0.99)).critical(
+            blocks.WANTED[order], "deep", 40, range(least, most + 1))
+            for (name, a, rate), order in itertools.product(sizes, ("parity", "late", "even", "extension")))
+        found = next(filter(None, tried), None)
         if found is None:
             make.leave_out(f"rounds-{least}")
         else:
-            yield found
-
-
-def by_columns(make: Maker, least: int, most: int) -> typing.Iterator[Case]:
-    for (name, a, rate), order in itertools.product(SMALL, ("parity", "late", "even", "extension")):
-        if steps.sizes(a, rate).graph in make.tables.graphs():
-            told, = sized(a, rate, [0], 0.99)
-            draft = make.whole(f"ladder {name}", [told])
-            if draft.critical(blocks.WANTED[order], "deep", 40, range(least, most + 1)):
-                yield from filter(None, [rung(make, draft, *draft.values())])
-
-
-def by_draws(make: Maker, least: int, most: int) -> typing.Iterator[Case]:
-    told, = sized(1400, 2048, [0], 0.99)
-    if steps.sizes(told.a, told.rate2048).graph not in make.tables.graphs():
-        return
-    draft, drawn = make.whole("ladder", [told]), random.Random(f"{make.seed} ladder")
-    whole, = draft.values()
-    for _ in range(20):
-        order = list(range(told.g))
-        drawn.shuffle(order)
-        low, high = len(draft.sizes.info), told.g
-        while high - low > 1:
-            middle = (low + high) // 2
-            there = set(order[:middle])
-            values = "".join([value if place in there else "0" for place, value in enumerate(whole)])
-            case = rung(make, draft, values)
-            low, high = (middle, high) if case is None else (low, middle)
-            if case and case.rounds and least <= case.rounds[0] <= most:
-                yield case
+            yield make.case(f"rounds-{least}", "decoder", f"{least} to {most} rounds of flooding", found)
 
 
 def size_of(graph: int, index: int) -> tuple[int, int]:

@@ -4,11 +4,12 @@ character each. It also has what is right after each of them, and what receivers
 from __future__ import annotations
 
 import dataclasses
+import itertools
 import pathlib
 
 from linksim_tools.conform import bits as lists
 from linksim_tools.conform import files
-from linksim_tools.conform.receiver import known_answers, steps
+from linksim_tools.conform.receiver import steps
 from linksim_tools.conform.receiver.mistakes import DOUBT, STEPS
 from linksim_tools.conform.receiver.known_answers import Shown
 from linksim_tools.conform.receiver.reception import Arrival, Case
@@ -16,26 +17,31 @@ from linksim_tools.conform.receiver.reception import Arrival, Case
 # What a case of a suite has of a transmission beside its values.
 TOLD = ("process", "fresh", "a", "rate2048", "lbrm", "rv", "g", "qm", "nl", "mask")
 
+
+def either(one: str, other: str) -> str:
+    """Which code blocks pass by the digits of one or of the other."""
+    return "".join(map(max, itertools.zip_longest(one, other, fillvalue="0")))
+
+
 @dataclasses.dataclass(frozen=True)
 class Kept:
-    """A case as a suite has it: what a right receiver answers, what else is accepted, and what the program proves after each
-    transmission. Of each mistake that answers otherwise it has the answers and whether some row was not met."""
+    """A case as a suite has it: what a right receiver answers, and what the program proves after each transmission. Of each mistake
+    that answers otherwise it has the answers and whether some row was not met."""
 
     case: Case
     right: Shown
     proved: tuple[str, ...]
     wrong: dict[str, tuple[Shown, bool]]
-    also: known_answers.Also
     clash: bool = False
     known: bool = True
 
-    def settled(self) -> list[bool]:
-        """After which transmissions a receiver need not have combined: a code block passed before in the same round."""
-        passed: dict[int, bool] = {}
+    def passed_before(self) -> list[str]:
+        """Which code blocks passed before each transmission in the same round, a digit each."""
+        passed: dict[int, str] = {}
         found = []
         for told, right in zip(self.case.arrivals, self.right):
-            found.append(not told.fresh and passed.get(told.process, False))
-            passed[told.process] = found[-1] or "1" in right[1]
+            found.append("" if told.fresh else passed.get(told.process, ""))
+            passed[told.process] = either(found[-1], right[1])
         return found
 
     def answers(self, name: str) -> tuple[Shown, bool]:
@@ -86,8 +92,7 @@ def case_of(value: files.Object) -> Kept:
         raise ValueError("no such step")
     case = Case(str(value["id"]), value["step"], str(value["what"]), arrivals, values, meant, str(value["mirror"]), rounds)
     proved = tuple(str(it["proved"]) for it in value["transmissions"])
-    also = tuple(tuple((str(it[0]), str(it[1])) for it in sent.get("also", ())) for sent in value["transmissions"])
-    return Kept(case, right, proved, wrong, also, bool(value["clash"]), bool(value["known"]))
+    return Kept(case, right, proved, wrong, bool(value["clash"]), bool(value["known"]))
 
 
 def read(path: str | pathlib.Path) -> Suite:

@@ -164,9 +164,9 @@ def outcomes(program: pathlib.Path, table: str, tables: steps.Tables, case: Case
 
 def line_of(kept: Kept) -> str:
     case = kept.case
-    each = zip(case.arrivals, case.values, case.meant, kept.right, kept.also, kept.proved)
+    each = zip(case.arrivals, case.values, case.meant, kept.right, kept.proved)
     sent = [{**told_of(told), "values": values, "block": lists.hexadecimal(meant), "right": right,
-             **({"also": also} if also else {}), "proved": proved} for told, values, meant, right, also, proved in each]
+             "proved": proved} for told, values, meant, right, proved in each]
     groups: dict[tuple[Shown, bool], list[str]] = {}
     for name, found in kept.wrong.items():
         groups.setdefault(found, []).append(name)
@@ -187,8 +187,7 @@ def kept_of(tables: steps.Tables, case: Case, found: Found, proved: list[Outcome
             print(f"the model and the program leave other bits open in {case.id}, which is left out", file=sys.stderr)
             return None
     wrong = {name: it for name, it in found.items() if name and it != (right, clash)}
-    accepted = known_answers.also(tables, case, right)
-    return Kept(case, right, tuple(it.words for it in proved), wrong, accepted, clash, len(found) > 1)
+    return Kept(case, right, tuple(it.words for it in proved), wrong, clash, len(found) > 1)
 
 
 def written(program: pathlib.Path, path: str, profile: str, seed: int, known: typing.Collection[str] = MISTAKES) -> list[str]:
