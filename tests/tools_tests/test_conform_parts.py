@@ -12,7 +12,7 @@ import report_pages
 from linksim_tools.conform.case import Case
 from linksim_tools.conform.clauses import Clauses
 from linksim_tools.conform.code import rotated
-from linksim_tools.conform.encoder import design, page, points, polynomials, displacement
+from linksim_tools.conform.encoder import design, displacement, page, points, polynomials, search
 from linksim_tools.conform.encoder import report as reporting
 from linksim_tools.conform.conditions import Common, Condition
 from linksim_tools.conform.encoder.mistakes import MISTAKES, clauses_of
@@ -21,15 +21,23 @@ from linksim_tools.conform.encoder.mistakes import MISTAKES, clauses_of
 class Listed(unittest.TestCase):
     """The listed mistakes."""
 
-    def test_each_replaces_one_method_of_the_chain(self) -> None:
+    def test_each_replaces_methods_of_the_chain(self) -> None:
         right = {name for name, _ in inspect.getmembers(Clauses, inspect.isfunction)}
-        for name, mistake in MISTAKES.items():
-            with self.subTest(name):
-                self.assertEqual(len(right & set(vars(mistake.made))), 1)
+        for it in (*MISTAKES.values(), *search.of_every_suite()):
+            with self.subTest((it.name, it.wrong)):
+                replaced = set(vars(it.made)) - {"__module__", "__doc__"}
+                self.assertTrue(replaced and replaced <= right, replaced)
 
     def test_two_together_are_a_class_of_both(self) -> None:
         both = clauses_of(frozenset([MISTAKES["shift-left"], MISTAKES["fillers-one"]]))
         self.assertEqual((both.shift(44, 16, 256), both.filler_bits(2)), ((-44) % 16, "11"))
+
+    def test_two_of_one_method_are_both_made(self) -> None:
+        """Also if a family makes one of them."""
+        other = next(it for it in search.of_every_suite() if it.wrong == "the redundancy versions 0, 1, 2, 3 begin as 1, 0, 2, 3")
+        plan = Clauses().plan_of(24, 2048)
+        both = clauses_of(frozenset([MISTAKES["k0-shifted"], other]))
+        self.assertEqual(both.start(plan, plan.n, 1), 2 * plan.z)
 
 
 class Conditions(unittest.TestCase):

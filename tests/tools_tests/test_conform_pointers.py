@@ -39,7 +39,7 @@ class Pointers(unittest.TestCase):
         self.assertIn("the same sequence is added to the right bits in all", said)
 
     def test_parity_bits_that_never_change(self) -> None:
-        said = self.said(crc_output=lambda self, parity: "0" + parity[1:])
+        said = self.said(crc=lambda self, name, bits: "0" + Clauses.crc(self, name, bits)[1:])
         self.assertIn("parity bits of the CRC of 16 bits that never change: p_0 = 0", said)
 
     def test_shifts_that_were_used(self) -> None:

@@ -15,9 +15,24 @@ SETS = dict(sorted((a << j, index) for index, a in enumerate(FACTORS) for j in r
 SIZES = list(SETS)
 KCB = {1: 8448, 2: 3840}
 
+# The limits of 6.2.2 and 7.2.2 in bits and in 2048ths of R, and those of 5.2.2 for each Kb in bits.
+GRAPH_LIMITS = {"small": 292, "middle": 3824, "low": 67 * 2048 // 100, "lowest": 2048 // 4}
+COLUMN_LIMITS = {10: 640, 9: 560, 8: 192}
+
 
 class Impossible(Exception):
     """A step cannot be made, for example if a mistake leads to no lifting size."""
+
+
+def graph_of(limits: dict[str, int], a: int, rate2048: int) -> int:
+    """The base graph of a block of A bits, by the limits of sizes and of code rates."""
+    low = a <= limits["middle"] and rate2048 <= limits["low"]
+    return 2 if a <= limits["small"] or low or rate2048 <= limits["lowest"] else 1
+
+
+def kb_of(limits: dict[int, int], graph: int, b: int) -> int:
+    """Kb of a block of B bits with its CRC, by the limits of each."""
+    return 22 if graph == 1 else next((kb for kb, limit in limits.items() if b > limit), 6)
 
 
 class Crc:
@@ -39,19 +54,10 @@ class Crc:
         """What the register has at the beginning."""
         return 0
 
-    def crc_input(self, bits: str) -> str:
-        """The bits in the order in which the register takes them."""
-        return bits
-
-    def crc_output(self, parity: str) -> str:
-        """The parity bits as they are sent, of those of the register, the highest first."""
-        return parity
-
     def crc(self, name: str, bits: str) -> str:
-        """The parity bits of a list."""
+        """The parity bits of a list, the highest first."""
         degree, terms = self.polynomial(name)
-        number = lists.remainder((degree, terms), self.crc_input(bits), self.register(degree))
-        return self.crc_output(f"{number:0{degree}b}")
+        return f"{lists.remainder((degree, terms), bits, self.register(degree)):0{degree}b}"
 
     def attached(self, a: str) -> str:
         """A transport block with its CRC."""
@@ -62,17 +68,8 @@ class Crc:
 class Segmentation:
     """The base graph (6.2.2, 7.2.2), and code block segmentation (5.2.2)."""
 
-    def is_rate_low(self, rate2048: int) -> bool:
-        """R <= 0.67."""
-        return 100 * rate2048 <= 67 * 2048
-
-    def is_rate_lowest(self, rate2048: int) -> bool:
-        """R <= 0.25."""
-        return 4 * rate2048 <= 2048
-
     def base_graph(self, a: int, rate2048: int) -> int:
-        low = a <= 3824 and self.is_rate_low(rate2048)
-        return 2 if a <= 292 or low or self.is_rate_lowest(rate2048) else 1
+        return graph_of(GRAPH_LIMITS, a, rate2048)
 
     def largest(self, graph: int) -> int:
         """Kcb."""
@@ -96,9 +93,7 @@ class Segmentation:
 
     def filled_columns(self, graph: int, a: int, b: int) -> int:
         """Kb."""
-        if graph == 1:
-            return 22
-        return 10 if b > 640 else 9 if b > 560 else 8 if b > 192 else 6
+        return kb_of(COLUMN_LIMITS, graph, b)
 
     def lifting_size(self, graph: int, kb: int, kdash: int) -> int:
         """Zc; the largest one if a mistake makes K' too long for it."""
@@ -215,29 +210,37 @@ class Matching:
             raise Impossible("no code block is scheduled")
         return found
 
-    def is_longer(self, j: int, count: int, longer: int) -> bool:
-        """Whether the j-th of `count` code blocks is a longer one, if `longer` of them are."""
-        return j >= count - longer
-
-    def place(self, j: int, r: int) -> int:
-        """The place of code block r, the j-th scheduled one, among those to which G is shared out."""
-        return j
-
-    def shared_by(self, c: int, count: int) -> int:
-        """To how many code blocks G is shared out."""
-        return count
-
     def unit(self, case: Case) -> int:
         """Of what E_r is a multiple."""
         return case.qm * case.nl
 
+    def counted(self, c: int, scheduled: int) -> int:
+        """C'."""
+        return scheduled
+
+    def shared_by(self, c: int, counted: int) -> int:
+        """To how many code blocks G is shared out."""
+        return counted
+
+    def longer(self, case: Case, units: int, count: int, c: int) -> int:
+        """How many code blocks are longer ones, if so many units are shared out to `count` of C."""
+        return units % count
+
+    def is_longer(self, j: int, r: int, counted: int, longer: int) -> bool:
+        """Whether code block r, the j-th of C' scheduled ones, is a longer one, if `longer` of them are."""
+        return j >= counted - longer
+
+    def longer_length(self, least: int, rest: int) -> int:
+        """How many units a longer one has, if the others have the least and so many are left over."""
+        return least + 1
+
     def lengths(self, case: Case, c: int, chosen: list[int]) -> list[int]:
         """E of each code block."""
-        unit, count = self.unit(case), self.shared_by(c, len(chosen))
-        least, longer = divmod(case.g // unit, count)
-        found = [0] * c
+        unit, counted, found = self.unit(case), self.counted(c, len(chosen)), [0] * c
+        units, count = case.g // unit, self.shared_by(c, counted)
+        longer, (least, rest) = self.longer(case, units, count, c), divmod(units, count)
         for j, r in enumerate(chosen):
-            found[r] = (least + self.is_longer(self.place(j, r), count, longer)) * unit
+            found[r] = (self.longer_length(least, rest) if self.is_longer(j, r, counted, longer) else least) * unit
         return found
 
     def ring(self, d: str, length: int) -> str:

@@ -6,6 +6,8 @@ import dataclasses
 import typing
 
 Method = typing.Callable[..., typing.Any]
+# Methods that replace the right ones, by their names.
+Methods = typing.Mapping[str, Method]
 
 
 @dataclasses.dataclass(frozen=True)
@@ -27,12 +29,12 @@ class Mistake:
         return (self.step, *self.also)
 
 
-def replacing(right: type[typing.Any], hook: str, change: Method) -> type[typing.Any]:
-    """A class that replaces a method. `change` is given the object, the right method, and what that is given."""
-    def method(self: typing.Any, *given: typing.Any) -> typing.Any:
-        return change(self, getattr(super(made, self), hook), *given)
+def replacing(right: type[typing.Any], methods: Methods) -> type[typing.Any]:
+    """A class that replaces methods. Each change is given the object, the right method, and what that is given."""
+    def replaced(hook: str, change: Method) -> Method:
+        return lambda self, *given: change(self, getattr(super(made, self), hook), *given)
 
-    made = type("Made", (right,), {hook: method})
+    made = type("Made", (right,), {hook: replaced(hook, change) for hook, change in methods.items()})
     return made
 
 
@@ -44,12 +46,10 @@ class Catalogue:
         self.there: dict[str, Mistake] = {}
 
     def mistake(self, step: str, name: str, clause: str, wrong: str, change: str, also: tuple[str, ...] = (),
-                **methods: Method) -> None:
-        """Lists a mistake by the one method that it replaces."""
+                family: Methods | None = None, **methods: Method) -> None:
+        """Lists a mistake by the methods that it replaces, or by those of a family of which it is a member."""
         assert name not in self.there, name
-        (hook, method), = methods.items()
-        made = replacing(self.right, hook, method)
-        self.there[name] = Mistake(name, step, also, clause, wrong, change, made)
+        self.there[name] = Mistake(name, step, also, clause, wrong, change, replacing(self.right, family or methods))
 
     def ordered(self) -> dict[str, Mistake]:
         return {it.name: it for it in sorted(self.there.values(), key=lambda it: self.steps.index(it.step))}

@@ -12,7 +12,7 @@ from linksim_tools.common.graphs import GRAPHS, LARGEST
 from linksim_tools.conform.case import STEPS, Row, Tables, put
 from linksim_tools.conform.clauses import right
 from linksim_tools.conform.code import Encoder, rotated
-from linksim_tools.conform.encoder.families import mistake
+from linksim_tools.conform.encoder.families import instead, mistake
 from linksim_tools.conform.encoder.judging import Trial
 from linksim_tools.conform.encoder.observations import Seen, groups_of
 from linksim_tools.conform.mistake import Mistake
@@ -161,7 +161,7 @@ AGAIN = "read the table again, and compare its fingerprint with that of `tools/t
 
 def mistake_of(name: str, graphs: typing.Iterable[int], wrong: str, rows: Changed, change: str = AGAIN) -> Mistake:
     """A mistake of the table: `rows` gives its rows for a base graph and a set index."""
-    made = mistake(name, "ldpc", wrong, change, {"read": lambda _self, *given: rows(*given)})
+    made = mistake(name, "ldpc", wrong, change, instead("read", rows))
     return dataclasses.replace(made, clause=", ".join(GRAPHS[graph].table for graph in sorted(set(graphs))))
 
 

@@ -1,4 +1,5 @@
-"""The mistakes of encoders that the checker knows, in the order of the chain, and the chains that make them."""
+"""The mistakes of encoders that the checker knows, in the order of the chain, and the chains that make them. Those that are members
+of a family are made by it."""
 
 from __future__ import annotations
 
@@ -7,8 +8,9 @@ import typing
 
 from linksim_tools.common.graphs import GRAPHS
 from linksim_tools.conform import bits as lists
-from linksim_tools.conform.case import STEPS, Plan, Row
+from linksim_tools.conform.case import STEPS, Row
 from linksim_tools.conform.clauses import SIZES, Clauses, right
+from linksim_tools.conform.encoder.families import after, crcs, instead, limits, numbers, orders
 from linksim_tools.conform.mistake import Catalogue, Method, Mistake, class_of
 
 CATALOGUE = Catalogue(STEPS, Clauses)
@@ -19,21 +21,20 @@ GRAPH, MATCHING, TABLE = "6.2.2, 7.2.2", "5.4.2.1", "Table 5.4.2.1-2"
 mistake("crc", "crc-exchanged", "6.2.1, 7.2.1", "CRC16 and CRC24A are exchanged", "attach CRC24A where A > 3824, else CRC16",
         crc_of_block=lambda _self, right, a: {"CRC16": "CRC24A", "CRC24A": "CRC16"}[right(a)])
 mistake("crc", "crc-by-b", "6.2.1, 7.2.1", "the CRC is chosen by B = A + 16 in place of A",
-        "compare A, without the CRC, with 3824", crc_of_block=lambda _self, right, a: right(a + 16))
+        "compare A, without the CRC, with 3824", family=limits.CRC.at({"a": 3824 - 16}))
 mistake("crc", "crc-24a-24b", "5.1", "the polynomials of CRC24A and CRC24B are exchanged",
         "transport block: 0x864CFB; code block: 0x800063", ("codecrc",),
         polynomial=lambda _self, right, name: right({"CRC24A": "CRC24B", "CRC24B": "CRC24A"}.get(name, name)))
 mistake("crc", "crc-preset", "5.1", "the register begins with ones", "begin with zeros", ("codecrc",),
         register=lambda _self, _right, degree: (1 << degree) - 1)
 mistake("crc", "crc-inverted", "5.1", "the parity bits are inverted", "send the remainder as it is", ("codecrc",),
-        crc_output=lambda _self, right, parity: right(lists.inverted(parity)))
+        family=orders.parity(lists.inverted))
 mistake("crc", "crc-parity-lowest-first", "5.1", "the parity bits are sent lowest first",
-        "send p_0, the highest, first", ("codecrc",), crc_output=lambda _self, right, parity: right(parity[::-1]))
+        "send p_0, the highest, first", ("codecrc",), family=orders.parity(lists.backwards))
 mistake("crc", "crc-octets-lowest-first", "5.1", "the CRC takes the lowest bit of each octet first",
-        "take the bits in the order in which they are sent", ("codecrc",),
-        crc_input=lambda _self, right, bits: right(lists.each_octet_reversed(bits)))
+        "take the bits in the order in which they are sent", ("codecrc",), family=crcs.over(crcs.EACH, lists.each_octet_reversed))
 mistake("codecrc", "code-crc-zeros", "5.2.2", "zeros stand where the CRC24B of a code block belongs",
-        "write its 24 parity bits there", code_block_crc=lambda *_: "0" * 24)
+        "write its 24 parity bits there", family=crcs.of_some(lambda *_: True, crcs.PARITIES["zeros"]))
 mistake("codecrc", "code-crc-over-fillers", "5.2.2", "the CRC24B of a code block goes over its fillers too",
         "take the K' - L bits alone", code_block_crc=lambda _self, right, part, fillers: right(part + "0" * fillers, fillers))
 mistake("codecrc", "crc-after-segmentation", "6.2.1, 5.2.2",
@@ -47,27 +48,27 @@ def next_size(z: int) -> int:
 
 # The base graph (6.2.2, 7.2.2), and segmentation (5.2.2).
 mistake("graph", "graph-by-size", GRAPH, "the base graph is chosen by A alone (2 where A <= 3824)",
-        "compare the code rate too", base_graph=lambda _self, _right, a, *_: 2 if a <= 3824 else 1)
+        "compare the code rate too", family=limits.GRAPH.at({"small": 3824, "low": 0, "lowest": 0}))
 mistake("graph", "graph-by-rate", GRAPH, "the base graph is chosen by the rate alone (2 where R <= 0.67)",
-        "compare A with 292 and 3824 too", base_graph=lambda self, _right, _a, rate2048: 2 if self.is_rate_low(rate2048) else 1)
+        "compare A with 292 and 3824 too", family=limits.GRAPH.at({"small": 0, "middle": limits.ALL}))
 mistake("graph", "graph-by-b", GRAPH, "the base graph is chosen by B in place of A",
         "compare A, without the CRC, with 292 and 3824",
         base_graph=lambda _self, right, a, rate2048: right(a + (24 if a > 3824 else 16), rate2048))
 mistake("graph", "graph-3824-strict", GRAPH, "base graph 1 already at A = 3824", "base graph 2 where A <= 3824 and R <= 0.67",
-        base_graph=lambda _self, right, a, rate2048: right(a + (a == 3824), rate2048))
+        family=limits.GRAPH.at({"middle": 3824 - 1}))
 mistake("graph", "graph-two-thirds", GRAPH, "the rate is compared with 2/3", "the limit is 0.67: 1372 of 2048 are below it",
-        is_rate_low=lambda _self, _right, rate2048: 3 * rate2048 <= 2 * 2048)
+        family=limits.GRAPH.at({"low": 2 * 2048 // 3}))
 mistake("graph", "graph-quarter-strict", GRAPH, "base graph 1 already at R = 0.25", "base graph 2 where R <= 0.25",
-        is_rate_lowest=lambda _self, _right, rate2048: 4 * rate2048 < 2048)
+        family=limits.GRAPH.at({"lowest": 512 - 1}))
 mistake("graph", "graph-quarter-forgotten", GRAPH, "base graph 1 for every A > 3824", "base graph 2 where R <= 0.25, for every A",
-        base_graph=lambda _self, right, a, rate2048: right(a, rate2048) if a <= 3824 else 1)
+        family=limits.GRAPH.at({"lowest": 0}))
 mistake("segmentation", "segment-limit", "5.2.2", "two code blocks already at B = Kcb",
-        "several code blocks only where B > Kcb", has_several=lambda _self, right, b, most: right(b + 1, most))
-mistake("segmentation", "kcb-3840", "5.2.2", "Kcb is 3840 at base graph 1 too", "8448 at base graph 1", largest=lambda *_: 3840)
+        "several code blocks only where B > Kcb", family=limits.several_before(1))
+mistake("segmentation", "kcb-3840", "5.2.2", "Kcb is 3840 at base graph 1 too", "8448 at base graph 1", family=limits.kcb(1, 3840))
 mistake("segmentation", "kb-10", "5.2.2", "Kb is 10 for every B at base graph 2", "Kb is 10, 9, 8 or 6, by B over 640, 560 and 192",
-        filled_columns=lambda _self, _right, graph, *_: GRAPHS[graph].information)
+        family=limits.COLUMNS.at({10: 0}))
 mistake("segmentation", "kb-limits", "5.2.2", "Kb is the larger one already at B = 640, 560 or 192",
-        "the larger one only where B is over these", filled_columns=lambda _self, right, graph, a, b: right(graph, a, b + 1))
+        "the larger one only where B is over these", family=limits.COLUMNS.at({10: 640 - 1, 9: 560 - 1, 8: 192 - 1}))
 mistake("segmentation", "kb-by-a", "5.2.2", "Kb is chosen by A in place of B", "compare B, with the CRC, with 640, 560 and 192",
         filled_columns=lambda _self, right, graph, a, *_: right(graph, a, a))
 mistake("segmentation", "lifting-by-k", "5.2.2", "the least Zc with K >= K', as if Kb were 10", "the least Zc with Kb Zc >= K'",
@@ -79,7 +80,7 @@ mistake("segmentation", "lifting-strict", "5.2.2", "the least Zc with Kb Zc > K'
 mistake("segmentation", "set-next", "5.3.2", "the set index of the next lifting size",
         "the row of Table 5.3.2-1 that has Zc itself", set_index=lambda _self, right, z: right(next_size(z)))
 mistake("segmentation", "set-rows", "Table 5.3.2-1", "the first two rows of the table are exchanged",
-        "set 0: 2, 4, 8, ..; set 1: 3, 6, 12, ..", set_index=lambda _self, right, z: {0: 1, 1: 0}.get(right(z), right(z)))
+        "set 0: 2, 4, 8, ..; set 1: 3, 6, 12, ..", family=numbers.sets_exchanged(0, 1))
 mistake("segmentation", "code-crc-left-out", "5.2.2", "several code blocks have no CRC of their own, and L = 0",
         "L = 24, and C = ceil(B / (Kcb - 24))", code_crc_length=lambda *_: 0)
 mistake("segmentation", "code-crc-always", "5.2.2", "a single code block has a CRC24B too, and L = 24",
@@ -161,15 +162,6 @@ mistake("ldpc", "core-first", "5.3.2", "the first parity column is rotated by th
         "rotate it by that P of its three which has no equal", odd_row=lambda *_: 0)
 
 
-def begun(formula: typing.Callable[[int, int, int], int]) -> Method:
-    """k0 of the product of its number with Ncb, of the columns that divide it, and of Zc."""
-    def start(self: Clauses, _right: Method, plan: Plan, length: int, version: int) -> int:
-        numerators, columns = self.starts(plan.graph)
-        return formula(numerators[version] * length, columns, plan.z)
-
-    return start
-
-
 # Rate matching (5.4.2.1): the buffer, k0 and E_r.
 mistake("buffer", "ncb-no-factor", MATCHING, "Nref lacks the factor R_LBRM = 2/3: TBS_LBRM / C",
         "Nref = floor(TBS_LBRM / (C 2/3))", reference=lambda _self, _right, lbrm, c, *_: lbrm // c)
@@ -180,34 +172,33 @@ mistake("buffer", "ncb-floor-early", MATCHING, "TBS_LBRM / C is rounded down bef
 mistake("buffer", "ncb-no-c", MATCHING, "Nref is not divided by C", "Nref = floor(3 TBS_LBRM / (2 C))",
         reference=lambda _self, right, lbrm, *_: right(lbrm, 1, 1))
 mistake("buffer", "ncb-scheduled", MATCHING, "Nref is divided by the number of scheduled code blocks",
-        "divide by C, all code blocks", reference=lambda _self, right, lbrm, _c, count: right(lbrm, count, count))
+        "divide by C, all code blocks", family=instead("reference", numbers.REFERENCES["1.5 TBS_LBRM / C'"]))
 mistake("buffer", "ncb-ignored", MATCHING, "the limit of the buffer is ignored: Ncb = N", "Ncb = min(N, Nref)",
         buffer_length=lambda _self, _right, _plan, length, *_: length)
 mistake("buffer", "k0-from-n", TABLE, "k0 is taken from N", "take it from Ncb",
         start=lambda _self, right, plan, _length, version: right(plan, plan.n, version))
 mistake("buffer", "k0-no-floor", TABLE, "k0 is no multiple of Zc", "round down before you multiply by Zc",
-        start=begun(lambda product, columns, _z: product // columns))
+        family=numbers.begun(numbers.BEGINS["floor(number Ncb / columns)"]))
 mistake("buffer", "k0-other-graph", TABLE, "k0 is that of the other base graph",
         "17, 33, 56 of 66 at base graph 1; 13, 25, 43 of 50 at 2", starts=lambda _self, right, graph: right(3 - graph))
 mistake("buffer", "k0-shifted", TABLE, "k0 is 2 Zc too large", "d_0 already is bit 2 Zc of the code block",
-        start=lambda _self, right, plan, length, version: right(plan, length, version) + 2 * plan.z)
+        family=after("start", numbers.OF_PLAN["2 Zc too large"]))
 mistake("buffer", "k0-in-word", TABLE, "k0 is 2 Zc too small, where it is not 0",
         "k0 counts bits of d, which begins after the first 2 Zc",
-        start=lambda _self, right, plan, length, version: max(right(plan, length, version) - 2 * plan.z, 0))
+        family=after("start", numbers.OF_PLAN["2 Zc too small"]))
 mistake("buffer", "rv-order", TABLE, "the redundancy versions are taken in the order 0, 2, 3, 1",
-        "the order is the scheduler's; rv is the number",
-        start=lambda _self, right, plan, length, version: right(plan, length, (0, 2, 3, 1)[version]))
+        "the order is the scheduler's; rv is the number", family=numbers.versions((0, 2, 3, 1)))
 mistake("lengths", "lengths-longer-first", MATCHING, "the longer code blocks come first",
-        "the first C' - mod(G / (NL Qm), C') are the shorter ones", is_longer=lambda _self, _right, j, _count, longer: j < longer)
+        "the first C' - mod(G / (NL Qm), C') are the shorter ones", family=numbers.composed(["the longer ones come first"]))
 mistake("lengths", "lengths-j-strict", MATCHING, "one code block fewer is a shorter one: j < is asked for j <=",
         "j <= C' - mod(G / (NL Qm), C') - 1",
-        is_longer=lambda _self, _right, j, count, longer: longer > 0 and j >= count - longer - 1)
+        family=numbers.composed(["one more is longer", "the longer length is the ceiling"]))
 mistake("lengths", "lengths-no-layers", MATCHING, "E_r is a multiple of Qm alone", "share out G / (NL Qm)",
-        unit=lambda _self, _right, case: case.qm)
+        family=numbers.composed(["the unit is Qm"]))
 mistake("lengths", "lengths-count-all", MATCHING, "G is shared out to all C code blocks",
-        "C' is the number of scheduled ones", shared_by=lambda _self, _right, c, *_: c)
+        "C' is the number of scheduled ones", counted=lambda _self, _right, c, _scheduled: c)
 mistake("lengths", "lengths-by-number", MATCHING, "j is the number r of the code block",
-        "j counts scheduled code blocks alone", place=lambda _self, _right, _j, r: r)
+        "j counts scheduled code blocks alone", family=numbers.composed(["j is the number r"]))
 mistake("lengths", "mask-ignored", MATCHING, "code blocks are sent that are not scheduled", "E_r = 0 there",
         scheduled=lambda _self, right, _mask, c: right("all", c))
 
@@ -268,7 +259,7 @@ mistake("interleaving", "interleaver-transposed", "5.4.2.2", "the interleaver's 
 mistake("interleaving", "interleaver-by-columns", "5.4.2.2", "written by columns and read by columns, e stays as it is",
         "write it by rows: Qm rows of E / Qm bits", interleaved=lambda _self, _right, e, *_: e)
 mistake("interleaving", "interleaver-symbol-reversed", "5.4.2.2", "the bits of each symbol are in reverse", "row 0 is read first",
-        interleaved=lambda _self, right, e, symbol: lists.in_words(symbol, lists.backwards)(right(e, symbol)))
+        family=orders.in_symbols(dict(orders.SYMBOLS)["in reverse"]))
 mistake("interleaving", "interleaver-over-all", "5.4.2.2, 5.5", "one interleaver goes over all code blocks together",
         "interleave each code block, then join them", interleaved_all=over_all)
 mistake("concatenation", "last-octet-reversed", "5.5", "the bits of the last octet are in reverse where it is not whole",

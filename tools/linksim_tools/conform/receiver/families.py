@@ -26,8 +26,8 @@ if typing.TYPE_CHECKING:
 
 # The methods of an encoder's chain that a receiver has too.
 HOOKS = frozenset("""
-start starts buffer_length reference bits_of_code_block count lengths unit is_longer shared_by place ring base_graph filled_columns
-lifting_size set_index has_several largest shift value read rows is_rate_low is_rate_lowest
+start starts buffer_length reference bits_of_code_block count lengths unit shared_by longer is_longer longer_length ring base_graph
+filled_columns lifting_size set_index has_several largest shift value read rows
 """.split())
 # If more fit than these, none is told. They are looked for until receivers were given so many values.
 MOST, WORK = 4, 40_000_000
@@ -40,8 +40,7 @@ VERSIONS = [it for count in (1, 2, 3) for it in itertools.combinations(range(4),
 
 def kind(step: str, clause: str, wrong: str, change: str, **methods: Method) -> Mistake:
     """A mistake that replaces a method of a receiver."""
-    (hook, method), = methods.items()
-    return Mistake("of-a-kind", step, (), clause, wrong, change, replacing(Receiver, hook, method))
+    return Mistake("of-a-kind", step, (), clause, wrong, change, replacing(Receiver, methods))
 
 
 def numbers_of(of: Diagnosis, told: Arrival, made: type[Receiver]) -> typing.Any:

@@ -7,13 +7,14 @@ import typing
 from linksim_tools.conform import bits as lists
 from linksim_tools.conform.case import Plan
 from linksim_tools.conform.clauses import Clauses
-from linksim_tools.conform.encoder.families import Methods, Steps, mistake
-from linksim_tools.conform.mistake import Mistake
+from linksim_tools.conform.encoder.families import Steps, mistake
+from linksim_tools.conform.mistake import Method, Methods, Mistake
 
 # The CRCs by whose they are: the steps that have them, words, and their names.
+EACH = tuple(lists.POLYNOMIALS)
 KINDS: tuple[tuple[Steps, str, tuple[str, ...]], ...] = (
     (("crc",), "the CRC of the transport block", ("CRC16", "CRC24A")), (("codecrc",), "the CRC of a code block", ("CRC24B",)),
-    (("crc", "codecrc"), "each CRC", ("CRC16", "CRC24A", "CRC24B")),
+    (("crc", "codecrc"), "each CRC", EACH),
 )
 
 # Which bits a CRC may take.
@@ -29,10 +30,10 @@ RANGES: tuple[tuple[str, lists.Order], ...] = (
 )
 
 # Parity bits of some code blocks, of the right ones; and which code blocks, by r and C.
-PARITIES: tuple[tuple[str, lists.Order], ...] = (
-    ("zeros", lambda it: "0" * len(it)), ("ones", lambda it: "1" * len(it)), ("inverted", lists.inverted),
-    ("in reverse", lists.backwards), ("those of CRC24A", str)
-)
+PARITIES: dict[str, lists.Order] = {
+    "zeros": lambda it: "0" * len(it), "ones": lambda it: "1" * len(it), "inverted": lists.inverted, "in reverse": lists.backwards,
+    "those of CRC24A": str
+}
 Which = typing.Callable[[int, int], bool]
 WHICH: tuple[tuple[str, Which], ...] = (
     ("r = 0", lambda r, c: r == 0), ("r > 0", lambda r, c: r > 0), ("the last code block", lambda r, c: r == c - 1),
@@ -43,14 +44,14 @@ WHICH: tuple[tuple[str, Which], ...] = (
 
 def over(names: tuple[str, ...], taken: lists.Order) -> Methods:
     """CRCs of these names over other bits."""
-    return {"crc": lambda self, name, bits: Clauses.crc(self, name, taken(bits) if name in names else bits)}
+    return {"crc": lambda _self, right, name, bits: right(name, taken(bits) if name in names else bits)}
 
 
 def of_code_blocks(parity: typing.Callable[[Clauses, list[str], str, Plan], str | None]) -> Methods:
     """Other parity bits of code blocks, of those before, of a code block's bits and the plan; None if they are the right ones."""
-    def code_block(self: Clauses, before: list[str], part: str, plan: Plan, last: bool) -> str:
+    def code_block(self: Clauses, right: Method, before: list[str], part: str, plan: Plan, last: bool) -> str:
         found = parity(self, before, part, plan) if plan.l else None
-        return Clauses.code_block(self, before, part, plan, last) if found is None else part + found
+        return str(right(before, part, plan, last) if found is None else part + found)
 
     return {"code_block": code_block}
 
@@ -69,14 +70,14 @@ def from_before(place: int) -> Methods:
 
 def without_zeros(names: tuple[str, ...]) -> Methods:
     """The remainder of the bits themselves, without the L zeros after them."""
-    def crc(self: Clauses, name: str, bits: str) -> str:
+    def crc(self: Clauses, right: Method, name: str, bits: str) -> typing.Any:
         degree, _ = self.polynomial(name)
         if name not in names:
-            return Clauses.crc(self, name, bits)
+            return right(name, bits)
         if len(bits) < degree:
             return bits.rjust(degree, "0")
         # What is left of the first bits is added to the last ones.
-        return f"{int(Clauses.crc(self, name, bits[:-degree]), 2) ^ int(bits[-degree:], 2):0{degree}b}"
+        return f"{int(right(name, bits[:-degree]), 2) ^ int(bits[-degree:], 2):0{degree}b}"
 
     return {"crc": crc}
 
@@ -89,7 +90,7 @@ def mistakes() -> typing.Iterator[Mistake]:
     for words, taken in RANGES:
         yield from (mistake("crc-range", steps, f"{whose} {words}", right, over(names, taken)) for steps, whose, names in KINDS)
     for which, test in WHICH:
-        for words, parity in PARITIES:
+        for words, parity in PARITIES.items():
             other = "CRC24A" if words == "those of CRC24A" else "CRC24B"
             yield mistake("code-crc", "codecrc", f"the parity bits of {which} are {words}", "each code block has its CRC24B",
                           of_some(test, parity, other))

@@ -6,10 +6,9 @@ import itertools
 import typing
 
 from linksim_tools.conform.bits import Order, backwards, each_octet_reversed, in_words, inverted, octets_backwards, words_of
-from linksim_tools.conform.clauses import Clauses
-from linksim_tools.conform.encoder.families import Methods, after, mistake
-from linksim_tools.conform.encoder.families.crcs import KINDS, over
-from linksim_tools.conform.mistake import Mistake
+from linksim_tools.conform.encoder.families import after, instead, mistake
+from linksim_tools.conform.encoder.families.crcs import EACH, KINDS, over
+from linksim_tools.conform.mistake import Methods, Mistake
 
 Parts = typing.Callable[[typing.List[str]], typing.List[str]]
 
@@ -88,11 +87,11 @@ def filled_up(width: int) -> Parts:
 
 def joined(change: Parts, cut: bool = False, scheduled: bool = True) -> Methods:
     """Code blocks joined otherwise, those alone of which something is sent, or all."""
-    def made(_self: Clauses, f: list[str]) -> str:
+    def made(f: list[str]) -> str:
         found = "".join(change([it for it in f if it or not scheduled]))
         return found[: sum(map(len, f))] if cut else found
 
-    return {"joined": made}
+    return instead("joined", made)
 
 
 def ends(width: int) -> typing.Iterator[tuple[str, Order]]:
@@ -108,6 +107,11 @@ def turned(hook: str, order: typing.Callable[..., typing.Any]) -> Methods:
     return after(hook, lambda it, *_: order(it))
 
 
+def parity(order: Order, names: tuple[str, ...] = EACH) -> Methods:
+    """An order of the parity bits of these CRCs."""
+    return after("crc", lambda bits, name, _: order(bits) if name in names else bits)
+
+
 # What may be in another order: its step, words, what is right, and the method that gives it.
 PLACES = (("concatenation", "output", "f of r = 0 first, its first bit first", "joined"),
           ("interleaving", "f of each code block", "5.4.2.2", "interleaved"),
@@ -121,8 +125,7 @@ def mistakes() -> typing.Iterator[Mistake]:
         yield mistake("other-order", "crc", f"input: {words}", right, turned("block", order))
         for steps, whose, names in KINDS:
             yield mistake("other-order", steps, f"the input of {whose}: {words}", "a_0 is taken first", over(names, order))
-            yield mistake("other-order", steps, f"the parity bits of {whose}: {words}", "p_0 is sent first", after(
-                "crc", lambda parity, name, _bits, o=order, n=names: o(parity) if name in n else parity))
+            yield mistake("other-order", steps, f"the parity bits of {whose}: {words}", "p_0 is sent first", parity(order, names))
         for step, what, right, hook in PLACES:
             yield mistake("other-order", step, f"{what}: {words}", right, turned(hook, order))
     for words, rows in SYMBOLS[1:]:

@@ -8,15 +8,14 @@ import typing
 from linksim_tools.common.graphs import GRAPHS, LARGEST
 from linksim_tools.conform import bits as lists
 from linksim_tools.conform.case import Plan, Row, put
-from linksim_tools.conform.clauses import Clauses
-from linksim_tools.conform.encoder.families import Methods, mistake
-from linksim_tools.conform.mistake import Mistake
+from linksim_tools.conform.encoder.families import instead, mistake
+from linksim_tools.conform.mistake import Method, Methods, Mistake
 
 
 def table(change: typing.Callable[[int, int, int, int], int | None], known: int = 4) -> Methods:
     """Other values of the entries of information columns and of the first `known` parity columns, of a value, its set, row and
     column. None leaves an entry out."""
-    def read(_self: Clauses, rows: list[Row], graph: int, index: int) -> list[Row]:
+    def read(rows: list[Row], graph: int, index: int) -> list[Row]:
         found: list[Row] = []
         for row, entries in enumerate(rows):
             last = GRAPHS[graph].information + known * (row >= 4)
@@ -25,7 +24,7 @@ def table(change: typing.Callable[[int, int, int, int], int | None], known: int 
             found.append([(column, put(values, index, value)) for column, values, value in made if value is not None])
         return found
 
-    return {"read": read}
+    return instead("read", read)
 
 
 def rows_lost() -> typing.Iterator[Mistake]:
@@ -34,9 +33,9 @@ def rows_lost() -> typing.Iterator[Mistake]:
         for words, last, graphs in ((f"row {row} gives zeros in both base graphs", row, (1, 2)),
                                     (f"rows from {row} on give zeros", 99, (1, 2)),
                                     *((f"rows from {row} on of base graph {graph} give zeros", 99, (graph,)) for graph in GRAPHS)):
-            yield mistake("rows-lost", "ldpc", words, "all rows of the base graph", {
-                "read": lambda _self, rows, graph, _index, first=row, last=last, graphs=graphs: [
-                    [] if graph in graphs and first <= number <= last else it for number, it in enumerate(rows)]})
+            yield mistake("rows-lost", "ldpc", words, "all rows of the base graph", instead(
+                "read", lambda rows, graph, _index, first=row, last=last, graphs=graphs: [
+                    [] if graph in graphs and first <= number <= last else it for number, it in enumerate(rows)]))
 
 
 def columns_lost() -> typing.Iterator[Mistake]:
@@ -73,10 +72,9 @@ BITS: tuple[tuple[str, typing.Callable[[str, int], str]], ...] = (
 
 def parity(change: typing.Callable[[str, int], str], skipped: int) -> Methods:
     """Other bits of the parity columns but the first ones."""
-    def sent_columns(_self: Clauses, word: str, plan: Plan) -> str:
+    def sent_columns(_self: object, right: Method, word: str, plan: Plan) -> typing.Any:
         first = plan.k + skipped * plan.z
-        found = word[:first] + "".join(change(column, plan.z) for column in lists.words_of(word[first:], plan.z))
-        return Clauses.sent_columns(_self, found, plan)
+        return right(word[:first] + "".join(change(column, plan.z) for column in lists.words_of(word[first:], plan.z)), plan)
 
     return {"sent_columns": sent_columns}
 

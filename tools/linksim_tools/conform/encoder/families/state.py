@@ -8,12 +8,12 @@ import typing
 
 from linksim_tools.conform import bits as lists
 from linksim_tools.conform.case import Case, Plan
-from linksim_tools.conform.clauses import Clauses, right
+from linksim_tools.conform.clauses import right
 from linksim_tools.conform.code import encoder_of
-from linksim_tools.conform.encoder.families import Methods, Steps, mistake
+from linksim_tools.conform.encoder.families import Steps, instead, mistake
 from linksim_tools.conform.encoder.points import Facts
 from linksim_tools.conform.encoder.suite import Suite
-from linksim_tools.conform.mistake import Mistake
+from linksim_tools.conform.mistake import Method, Methods, Mistake
 
 # Settings that may be those of the case before, with the steps that take them.
 SETTINGS: dict[str, tuple[str, Steps]] = {
@@ -43,7 +43,7 @@ MOST = 1 << 22
 
 
 def setting(name: str) -> Methods:
-    return {"told": lambda _self, case, before: dataclasses.replace(case, **{name: getattr(before, name)}) if before else case}
+    return instead("told", lambda case, before: dataclasses.replace(case, **{name: getattr(before, name)}) if before else case)
 
 
 @functools.lru_cache(maxsize=2048)
@@ -53,14 +53,12 @@ def facts_of(case: Case) -> Facts:
 
 def number(hook: str, left: typing.Callable[..., typing.Any]) -> Methods:
     """A number of the case before."""
-    right = getattr(Clauses, hook)
-
-    def told(self: typing.Any, case: Case, before: Case | None) -> Case:
+    def told(self: typing.Any, _right: Method, case: Case, before: Case | None) -> Case:
         self.before = before
         return case
 
-    def made(self: typing.Any, *given: typing.Any) -> typing.Any:
-        value = right(self, *given)
+    def made(self: typing.Any, right: Method, *given: typing.Any) -> typing.Any:
+        value = right(*given)
         return left(value, facts_of(self.before), *given) if self.before else value
 
     return {"told": told, hook: made}
@@ -71,7 +69,7 @@ def uncleared(suite: Suite) -> dict[str, str]:
     """The parity bits of all transport blocks of a suite in turn, by the id of a case, if the register is never cleared."""
     rest, found = 0, {}
     for name, case in suite.cases.items():
-        degree, terms = lists.POLYNOMIALS[Clauses().crc_of_block(len(case.a))]
+        degree, terms = lists.POLYNOMIALS[right().crc_of_block(len(case.a))]
         rest = lists.remainder((degree, terms), case.a, rest & (1 << degree) - 1)
         found[name] = f"{rest:0{degree}b}"
     return found
@@ -79,11 +77,11 @@ def uncleared(suite: Suite) -> dict[str, str]:
 
 def register(suite: Suite) -> Methods:
     """The register of the transport block's CRC begins with what the case before left there."""
-    def told(self: typing.Any, case: Case, _before: Case | None) -> Case:
+    def told(self: typing.Any, _right: Method, case: Case, _before: Case | None) -> Case:
         self.id = case.id
         return case
 
-    return {"told": told, "attached": lambda self, a: a + uncleared(suite)[self.id]}
+    return {"told": told, "attached": lambda self, _right, a: a + uncleared(suite)[self.id]}
 
 
 # What one memory keeps of a code block: of what there was, the bits, their old fillers, the plan and the suite.
@@ -116,7 +114,7 @@ MEMORIES: tuple[tuple[Kept, str], ...] = (
 
 def fillers(memory: typing.Callable[[], dict[str, str]]) -> Methods:
     """Parity of old bits in the places of fillers."""
-    return {"filled": lambda _self, bits, found: bits + (memory().get(bits, found) if found.strip("0") == "" else found)}
+    return instead("filled", lambda bits, found: bits + (memory().get(bits, found) if found.strip("0") == "" else found))
 
 
 @functools.lru_cache(maxsize=4)
