@@ -14,8 +14,7 @@ from linksim_tools.conform.case import FIELDS, STEPS, Answer
 from linksim_tools.conform.chain import Chain
 from linksim_tools.conform.clauses import Clauses, right
 from linksim_tools.conform.code import TablesKey
-from linksim_tools.conform.encoder import listing, mistakes, search
-from linksim_tools.conform.encoder import page as pages
+from linksim_tools.conform.encoder import commands, mistakes, search
 from linksim_tools.conform.encoder import report as reporting
 from linksim_tools.conform.encoder.judging import Trials
 from linksim_tools.conform.encoder.report import Report
@@ -51,7 +50,7 @@ class Planted(unittest.TestCase):
                 self.assertEqual((found[0].alike, found[0].apart), apart)
 
     def test_the_suite_says_which_have_the_same_bits(self) -> None:
-        lines = {line.split(" (")[0].split()[-1]: line for line in listing.mistakes(str(conform_shared.suite_path()))}
+        lines = {line.split(" (")[0].split()[-1]: line for line in commands.mistakes(str(conform_shared.suite_path()))}
         self.assertEqual(list(lines), list(mistakes.MISTAKES))
         for name, line in lines.items():
             count, _, said = line.strip().partition(" ")
@@ -212,7 +211,7 @@ class Words(unittest.TestCase):
     def test_html(self) -> None:
         for answers in (conform_shared.planted("kb-10", fields=("sent",)), conform_shared.planted("shift-left")):
             _, made = self.lines(answers)
-            page = "\n".join(pages.lines(made))
+            page = "\n".join(reporting.page_lines(made))
             for fitting in made.diagnosis[0].fitting:
                 self.assertIn(f"  {fitting.names()[0]} (", page)
             for found in made.diagnosis:

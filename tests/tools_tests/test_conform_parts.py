@@ -12,7 +12,7 @@ import report_pages
 from linksim_tools.conform.case import Case
 from linksim_tools.conform.clauses import Clauses
 from linksim_tools.conform.code import rotated
-from linksim_tools.conform.encoder import design, displacement, page, points, polynomials, search
+from linksim_tools.conform.encoder import design, displacement, points, polynomials, search
 from linksim_tools.conform.encoder import report as reporting
 from linksim_tools.conform.conditions import Common, Condition
 from linksim_tools.conform.encoder.mistakes import MISTAKES, clauses_of
@@ -145,6 +145,6 @@ class Page(report_pages.SeenPages):
         unknown = {name: dataclasses.replace(it, d=[d[::-1] for d in it.d or []]) for name, it in wrong.items()}
         for answers in (conform_shared.planted(), wrong, unknown):
             made = reporting.report(conform_shared.suite(), answers)
-            marks, pictures = self.seen(page.lines(made))
+            marks, pictures = self.seen(reporting.page_lines(made))
             self.assertRegex(marks, "^[\u2713\u2717]{10}$")
             self.assertEqual(pictures, sum(first.spot is not None for first in made.firsts))

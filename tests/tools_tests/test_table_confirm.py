@@ -12,7 +12,7 @@ from linksim_tools.common.program import Failed
 from linksim_tools.conform import code
 from linksim_tools.conform.chain import Chain
 from linksim_tools.conform.clauses import right
-from linksim_tools.conform.encoder import plain
+from linksim_tools.conform.encoder.suite import case_of_words
 from linksim_tools.rtl import bbdev
 from linksim_tools.table import confirm, words
 from model import encoder
@@ -37,7 +37,7 @@ def changed(entries: shared.Entries, place: tuple[int, int], index: int, value: 
 
 def operations(text: str, entries: shared.Entries) -> list[str]:
     """The files of test-bbdev of the code blocks of a case."""
-    case = plain.case_of(text.split())
+    case = case_of_words(text.split())
     values = Chain(code.TablesKey(code.entries_of(shared.table_text({2: entries}))), case, right()).values()
     one: typing.Any = types.SimpleNamespace(case=case, values=values)
     return ["\n".join(bbdev.lines(one, r)) for r in range(values.plan.c)]

@@ -74,6 +74,8 @@ class Plan:
 
 
 PLAN = tuple(field.name for field in dataclasses.fields(Plan))
+# The same in words.
+NAMES = dict(zip(PLAN, ("A", "B", "the base graph", "C", "L", "K'", "Kb", "Zc", "the set index", "K", "N")))
 
 
 @dataclasses.dataclass(frozen=True)

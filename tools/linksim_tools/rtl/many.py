@@ -7,7 +7,7 @@ import typing
 
 from linksim_tools.common.tables import table_at
 from linksim_tools.conform.encoder import points
-from linksim_tools.conform.encoder.values import values_of
+from linksim_tools.conform.encoder.suite import values_of
 from linksim_tools.rtl.by_block import Transmission
 
 if typing.TYPE_CHECKING:

@@ -3,18 +3,24 @@
 from __future__ import annotations
 
 import argparse
+import json
+import typing
 
 from linksim_tools.common.command_line import add_out, hint
 from linksim_tools.common.message import shown
+from linksim_tools.common.program import Failed
 from linksim_tools.conform.bits import PACKINGS
-from linksim_tools.conform.case import FIELDS, Answer
-from linksim_tools.conform.commands import Words, chosen, command_of, reported, save, written
+from linksim_tools.conform.case import BITS, FIELDS, STEPS, Answer
+from linksim_tools.conform.commands import PROFILES, Words, chosen, command_of, reported, save, written
 from linksim_tools.conform.encoder import answers as answering
-from linksim_tools.conform.encoder import listing, points
-from linksim_tools.conform.encoder import page as pages
+from linksim_tools.conform.encoder import design, points
 from linksim_tools.conform.encoder import report as reporting
 from linksim_tools.conform.encoder import run as running
 from linksim_tools.conform.encoder import suite as suites
+from linksim_tools.conform.encoder.judging import NOTHING, Trial
+from linksim_tools.conform.encoder.mistakes import MISTAKES
+from linksim_tools.conform.encoder.search import outcome
+from linksim_tools.conform.files import head_of, json_line, numbered_lines, vector_lines
 from linksim_tools.conform.report import record_of
 from linksim_tools.conform.run import until_interrupted
 from linksim_tools.rtl import beats, suite_files
@@ -30,6 +36,46 @@ read, 2 for a usage error.
 """
 ABOUT = ("Conformance of an encoder with TS 38.212: a suite of cases, and a check that names the mistake; "
          "`receiver` before COMMAND does the same for a receiver.")
+
+
+def show(path: str, wanted: str) -> typing.Iterator[str]:
+    """A case of a suite file, as tools/vectors writes it: an object with a code block a line."""
+    lines = numbered_lines(path)
+    head_of(path, next(lines, (1, "")), "conform", set())
+    value = next((it for it in (json_line(path, *numbered) for numbered in lines) if it.get("id") == wanted), None)
+    if value is None:
+        raise Failed(f"{path} has no case {shown(wanted)}")
+    parts, sent = value.pop("codeblocks"), value.pop("sent")
+    return vector_lines(value, map(json.dumps, parts), sent)
+
+
+def plain(path: str) -> typing.Iterator[str]:
+    """The cases of a suite as plain words."""
+    suite = suites.read(path)
+    return (suites.words_of(case, suite.values[case.id].plan.c) for case in suite.cases.values())
+
+
+def mistakes(path: str) -> typing.Iterator[str]:
+    """A line for each mistake: how many cases show it, its name and clause, and which mistakes give the same bits in all cases."""
+    suite, right = suites.read(path), ""
+    candidates = {right: NOTHING, **{name: frozenset([it]) for name, it in MISTAKES.items()}}
+    found: dict[str, list[int | None]] = {name: [] for name in candidates}
+    for case in suite.cases:
+        trial = Trial(suite, case, Answer())
+        for name, wrong in candidates.items():
+            made = [outcome(trial, field, wrong) for field in BITS]
+            found[name].append(None if None in made else hash(repr(made)))
+        trial.forget()
+    for name, it in MISTAKES.items():
+        count = sum(one != two for one, two in zip(found[name], found[right]))
+        same = [other for other in MISTAKES if other != name and count and found[other] == found[name]]
+        alike = f" (the same bits as {', '.join(same)})" if same else ""
+        yield f"{count:5} {STEPS[it.step][0]:15} {name} ({it.clause}): {it.wrong}{alike}"
+
+
+def profile_points() -> typing.Iterator[str]:
+    """The points with the number of cases of each profile."""
+    return points.lines({profile: design.designed(profile, 1) for profile in PROFILES})
 
 
 def export(given: argparse.Namespace) -> None:
@@ -53,7 +99,7 @@ def judged(given: argparse.Namespace, suite: suites.Suite, answers: dict[str, An
     if getattr(given, "twice", False) and not running.Run.interrupted:
         with until_interrupted(made.troubles):
             made.twice = running.again(form_of(given), suite, answers, failing)
-    return reported(given, made, reporting.text(made), pages.lines(made))
+    return reported(given, made, reporting.text(made), reporting.page_lines(made))
 
 
 def check(given: argparse.Namespace) -> int:
@@ -111,15 +157,15 @@ def options(with_kinds: bool) -> argparse.ArgumentParser:
     which.add_argument("--cases", metavar="FILE", help="your own cases, as lines of plain words")
     suite.add_argument("--pack", choices=PACKINGS, default="hex", help="how lists of bits are written (hex)")
     add_judges(words)
-    words.add("plain", written(listing.plain, "suite"), "writes the cases of a suite as lines of plain words", "--out cases.txt")
+    words.add("plain", written(plain, "suite"), "writes the cases of a suite as lines of plain words", "--out cases.txt")
     said = "writes one case of a suite as a set of vectors holds it"
-    shows = words.add("show", written(listing.show, "suite", "id"), said, "kb-560")
+    shows = words.add("show", written(show, "suite", "id"), said, "kb-560")
     shows.add_argument("id", metavar="ID", help="the id of the case")
     said = "writes the known mistakes, each with the number of cases that show it"
-    words.add("mistakes", written(listing.mistakes, "suite"), said)
+    words.add("mistakes", written(mistakes, "suite"), said)
     add_export(words)
     said = "writes the points of the clauses, each with the number of cases that cover it"
-    words.add("points", written(listing.profile_points), said, suite=False)
+    words.add("points", written(profile_points), said, suite=False)
     if with_kinds:
         words.whole.commands.add_parser("encoder", help="before one of these words: of an encoder, as without it")
         words.whole.commands.add_parser("receiver", help="before one of these words: the same of a receiver")

@@ -7,7 +7,7 @@ import typing
 
 from linksim_tools.common.graphs import GRAPHS
 from linksim_tools.conform import bits as lists
-from linksim_tools.conform.case import STEPS, Plan
+from linksim_tools.conform.case import NAMES, STEPS, Plan
 from linksim_tools.conform.clauses import Impossible
 from linksim_tools.conform.encoder import displacement
 from linksim_tools.conform.encoder.displacement import first_place
@@ -113,10 +113,9 @@ class Difference:
         return [f"base graph {found}, right is {right}: A = {len(case.a)}, R = {case.rate2048} / 2048 (6.2.2, 7.2.2)"]
 
     def of_plan(self, found: dict[str, int], right: Plan) -> list[str]:
-        names = {"kdash": "K'", "kb": "Kb", "z": "Zc", "set": "the set index"}
         numbers = dataclasses.asdict(right)
         wrong = {name: it for name, it in found.items() if numbers[name] != it}
-        return [f"{names.get(name, name.upper())} is {it}, right is {numbers[name]} (5.2.2, 5.3.2)" for name, it in wrong.items()]
+        return [f"{NAMES[name]} is {it}, right is {numbers[name]} (5.2.2, 5.3.2)" for name, it in wrong.items()]
 
     def of_Ncb(self, found: int, right: int) -> list[str]:
         limit = "no limit" if self.case.lbrm is None else f"TBS_LBRM = {self.case.lbrm}"

@@ -7,6 +7,7 @@ import itertools
 import math
 import typing
 
+from linksim_tools.conform.case import NAMES
 from linksim_tools.conform.clauses import Impossible
 from linksim_tools.conform.conditions import NUMBERS
 from linksim_tools.conform.encoder import displacement
@@ -18,8 +19,6 @@ from linksim_tools.conform.encoder.polynomials import of_answer
 # How many numbers are told that stand for others, in how many of a hundred cases a shift must be the same, and the least number of
 # bits of a word of which several may be missing.
 OTHERS, MOST, LEAST_WORD = 4, 50, 16
-NAMES = {"b": "B", "graph": "the base graph", "c": "C", "l": "L", "kdash": "K'", "kb": "Kb", "z": "Zc", "set": "the set index",
-         "k": "K", "n": "N"}
 # The lists of bits that each step answers, by their names.
 LISTS = {"crc": ("attached", "the block with its CRC"), "codecrc": ("bits", "the bits"), "ldpc": ("d", "d"),
          "selection": ("e", "e"), "interleaving": ("f", "f"), "concatenation": ("sent", "the bits sent")}

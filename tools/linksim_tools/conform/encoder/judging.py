@@ -176,27 +176,18 @@ class Trials:
         named = {name: Trial(suite, name, answer) for name, answer in answers.items() if answer.names()}
         self.suite = suite
         self.by_name = {name: named[name] for name in sorted(named, key=lambda it: size(suite.cases[it]))}
-        self.zeros = self.take_zeros()
-        self.from_d = self.take_bits()
+        # Zeros in d are fillers if no later answer says that they are sent, and bits that were not answered stand in d.
+        self.zeros = self.take(with_fillers, self.are_sent)
+        self.from_d = self.take(with_bits, lambda *_: False)
 
-    def changed(self, change: typing.Callable[[Trial], Answer | None]) -> dict[str, Trial]:
-        """The trials of which another answer is taken."""
-        found = {name: change(trial) for name, trial in self.by_name.items()}
-        return {name: Trial(self.suite, name, answer) for name, answer in found.items() if answer is not None}
-
-    def take_bits(self) -> list[str]:
-        """Takes the bits of code blocks from d where they were not answered; the cases in which it does."""
-        taken = self.changed(with_bits)
-        self.by_name.update(taken)
-        return list(taken)
-
-    def take_zeros(self) -> list[str]:
-        """Takes zeros in d for fillers, if later answers do not say that they are sent; the cases that have such."""
-        filled = self.changed(with_fillers)
-        if any(self.are_sent(name, trial) for name, trial in filled.items()):
+    def take(self, change: typing.Callable[[Trial], Answer | None], is_against: typing.Callable[[str, Trial], bool]) -> list[str]:
+        """Takes other answers, if none of them speaks against it; the cases in which it does."""
+        changed = {name: change(trial) for name, trial in self.by_name.items()}
+        found = {name: Trial(self.suite, name, answer) for name, answer in changed.items() if answer is not None}
+        if any(is_against(name, trial) for name, trial in found.items()):
             return []
-        self.by_name.update(filled)
-        return list(filled)
+        self.by_name.update(found)
+        return list(found)
 
     def are_sent(self, name: str, fillers: Trial) -> bool:
         """Whether the next answer after d is made of the zeros, and not of fillers."""

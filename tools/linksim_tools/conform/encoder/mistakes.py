@@ -52,8 +52,7 @@ mistake("graph", "graph-by-size", GRAPH, "the base graph is chosen by A alone (2
 mistake("graph", "graph-by-rate", GRAPH, "the base graph is chosen by the rate alone (2 where R <= 0.67)",
         "compare A with 292 and 3824 too", family=limits.GRAPH.at({"small": 0, "middle": limits.ALL}))
 mistake("graph", "graph-by-b", GRAPH, "the base graph is chosen by B in place of A",
-        "compare A, without the CRC, with 292 and 3824",
-        base_graph=lambda _self, right, a, rate2048: right(a + (24 if a > 3824 else 16), rate2048))
+        "compare A, without the CRC, with 292 and 3824", family=limits.GRAPH.at({"small": 292 - 16, "middle": 3824 - 16}))
 mistake("graph", "graph-3824-strict", GRAPH, "base graph 1 already at A = 3824", "base graph 2 where A <= 3824 and R <= 0.67",
         family=limits.GRAPH.at({"middle": 3824 - 1}))
 mistake("graph", "graph-two-thirds", GRAPH, "the rate is compared with 2/3", "the limit is 0.67: 1372 of 2048 are below it",
@@ -184,15 +183,13 @@ mistake("buffer", "k0-other-graph", TABLE, "k0 is that of the other base graph",
 mistake("buffer", "k0-shifted", TABLE, "k0 is 2 Zc too large", "d_0 already is bit 2 Zc of the code block",
         family=after("start", numbers.OF_PLAN["2 Zc too large"]))
 mistake("buffer", "k0-in-word", TABLE, "k0 is 2 Zc too small, where it is not 0",
-        "k0 counts bits of d, which begins after the first 2 Zc",
-        family=after("start", numbers.OF_PLAN["2 Zc too small"]))
+        "k0 counts bits of d, which begins after the first 2 Zc", family=after("start", numbers.OF_PLAN["2 Zc too small"]))
 mistake("buffer", "rv-order", TABLE, "the redundancy versions are taken in the order 0, 2, 3, 1",
         "the order is the scheduler's; rv is the number", family=numbers.versions((0, 2, 3, 1)))
 mistake("lengths", "lengths-longer-first", MATCHING, "the longer code blocks come first",
         "the first C' - mod(G / (NL Qm), C') are the shorter ones", family=numbers.composed(["the longer ones come first"]))
 mistake("lengths", "lengths-j-strict", MATCHING, "one code block fewer is a shorter one: j < is asked for j <=",
-        "j <= C' - mod(G / (NL Qm), C') - 1",
-        family=numbers.composed(["one more is longer", "the longer length is the ceiling"]))
+        "j <= C' - mod(G / (NL Qm), C') - 1", family=numbers.composed(["one more is longer", "the longer length is the ceiling"]))
 mistake("lengths", "lengths-no-layers", MATCHING, "E_r is a multiple of Qm alone", "share out G / (NL Qm)",
         family=numbers.composed(["the unit is Qm"]))
 mistake("lengths", "lengths-count-all", MATCHING, "G is shared out to all C code blocks",

@@ -8,8 +8,6 @@ import json
 
 from linksim_tools.conform import run as running
 from linksim_tools.conform.case import Answer, Case
-from linksim_tools.conform.command import Stopped
-from linksim_tools.conform.encoder import plain as plains
 from linksim_tools.conform.encoder import suite as suites
 from linksim_tools.conform.encoder.answers import answer_of, most_octets
 from linksim_tools.conform.encoder.judging import same
@@ -34,7 +32,7 @@ class Form:
     def question(self, case: Case, suite: suites.Suite) -> str:
         """The line that an encoder is given of a case."""
         if self.plain:
-            return plains.line_of(case, suite.values[case.id].plan.c)
+            return suites.words_of(case, suite.values[case.id].plan.c)
         return json.dumps(suites.given(case, self.pack))
 
 
@@ -62,7 +60,7 @@ class Run(running.Run[str]):
             for number, name in enumerate(self.suite.cases, 1):
                 try:
                     self.ask_case(name)
-                except Stopped as stopped:
+                except running.Stopped as stopped:
                     if not self.stopped(f"case {name}, number {number} of {len(self.suite.cases)}", stopped):
                         return
 
@@ -89,7 +87,7 @@ class Again:
             for name in names:
                 run.there.clear()
                 run.ask_case(name)
-        except Stopped:
+        except running.Stopped:
             return None
         finally:
             run.end()

@@ -1,4 +1,5 @@
-"""The suite as a file: a head with the table, and then a case a line, as tools/vectors writes a transmission."""
+"""The suite as a file: a head with the table, and then a case a line, as tools/vectors writes a transmission. A case may be a line
+of plain words too, for encoders without a JSON parser."""
 
 from __future__ import annotations
 
@@ -13,13 +14,64 @@ from linksim_tools.common.message import shown
 from linksim_tools.common.program import Failed, name_of
 from linksim_tools.conform import bits as lists
 from linksim_tools.conform import code
-from linksim_tools.conform.answer_lines import Wrong
-from linksim_tools.conform.case import PLAN, Case, Plan, Tables, Values
+from linksim_tools.conform.answer_lines import Wrong, pairs_of
+from linksim_tools.conform.case import PLAN, Case, Plan, Tables, Values, scheduled
 from linksim_tools.conform.chain import Chain
 from linksim_tools.conform.clauses import Impossible, right
 from linksim_tools.conform.code import TablesKey
-from linksim_tools.conform.encoder import design, plain, points
+from linksim_tools.conform.encoder import design, points
 from linksim_tools.conform.files import FORMAT, Object, entries_of, listed, made_by, numbered_lines, packed, suite_of
+
+# The names of a line, in their order, with the smallest and the largest value of those that are numbers.
+NUMBERS = {"rate2048": (1, 2048), "lbrm": (1, 2**32 - 1), "rv": (0, 3), "g": (1, 4_194_304), "qm": (1, 8), "nl": (1, 4)}
+NAMES = ("id", *NUMBERS, "mask", "a")
+
+# How long an id may be, and a block in octets.
+MOST_LETTERS, MOST_OCTETS = 63, 163_840
+
+
+def words_of(case: Case, count: int) -> str:
+    """A case of `count` code blocks in plain words: a name and a value in turn, `-` if there is no limit."""
+    named = set(scheduled(case.mask, count))
+    words = {name: getattr(case, name) for name in NAMES}
+    words["mask"] = "all" if case.mask == "all" else "".join("1" if r in named else "0" for r in range(count))
+    words["lbrm"] = "-" if case.lbrm is None else case.lbrm
+    words["a"] = lists.hexadecimal(case.a)
+    return " ".join(f"{name} {value}" for name, value in words.items())
+
+
+def number_of(name: str, text: str) -> int:
+    least, most = NUMBERS[name]
+    if not (text.isdecimal() and text.isascii() and len(text) < 12 and least <= int(text) <= most):
+        raise ValueError(f"{name} is not a number from {least} to {most}: {shown(text)}")
+    return int(text)
+
+
+def mask_of(text: str) -> str:
+    """The mask of a digit for each code block, as a schedule names it."""
+    if text == "all":
+        return text
+    if text.strip("01") or "1" not in text:
+        raise ValueError(f"mask is not `all`, and no digits 0 and 1 with a 1: {shown(text)}")
+    return " ".join(str(r) for r, digit in enumerate(text) if digit == "1")
+
+
+def case_of_words(words: list[str]) -> Case:
+    """The case of plain words; a mistake is an error that says what is wrong."""
+    found = dict(pairs_of(words))
+    strange = [name for name in found if name not in NAMES]
+    lacking = [name for name in ("id", "rate2048", "g", "a") if name not in found]
+    if strange or lacking:
+        raise ValueError(f"unknown name: {shown(strange[0])}" if strange else f"{lacking[0]} is not there")
+    digits = found["a"]
+    if digits.strip("0123456789abcdefABCDEF") or len(digits) % 2 or len(digits) > 2 * MOST_OCTETS:
+        raise ValueError(f"a is not hexadecimal digits of whole octets, at most {MOST_OCTETS}")
+    if not found["id"].isprintable() or len(found["id"]) > MOST_LETTERS:
+        raise ValueError(f"id is longer than {MOST_LETTERS} letters, or has one that cannot be printed")
+    limit = found.get("lbrm", "-")
+    rest = {name: number_of(name, found[name]) for name in ("rv", "g", "qm", "nl") if name in found}
+    return Case(found["id"], lists.of_digits(digits, 4 * len(digits)), number_of("rate2048", found["rate2048"]),
+                None if limit == "-" else number_of("lbrm", limit), mask=mask_of(found.get("mask", "all")), **rest)
 
 
 def given(case: Case, form: str = "hex") -> Object:
@@ -60,7 +112,7 @@ def own_cases(path: str | pathlib.Path, tables: Tables) -> list[Case]:
         if not line.strip() or line.startswith("#"):
             continue
         try:
-            case = plain.case_of(line.split())
+            case = case_of_words(line.split())
             if case.id in found:
                 raise ValueError(f"a case before it is {shown(case.id)} too")
             facts = points.Facts(case)
@@ -76,11 +128,37 @@ def own_cases(path: str | pathlib.Path, tables: Tables) -> list[Case]:
     return list(found.values())
 
 
+def values_of(table: typing.Any, case: Case) -> Values:
+    """All that stands between the case's block and its sent bits, each step by the library's own call."""
+    # It is loaded here: who reads a suite has no need of the library.
+    import nr
+
+    block, a = lists.octets_of(case.a), len(case.a)
+    rate: dict[str, typing.Any] = {"rate2048": case.rate2048}
+    limited: dict[str, typing.Any] = {**rate, "lbrm": case.lbrm}
+    try:
+        plan = nr.plan(a, **rate)
+        named = None if case.mask == "all" else scheduled(case.mask, plan.c)
+        tx = nr.Tx(g=case.g, rv=case.rv, qm=case.qm, nl=case.nl, blocks=named)
+        bits = [nr.cut(block, r, **rate) for r in range(plan.c)]
+        words = [nr.codeword(table, part, a, **rate) for part in bits]
+        buffer, lengths = nr.buffer(a, case.rv, **limited), nr.lengths(a, tx, **rate)
+        selected = [nr.select(d, length, a, rv=case.rv, **limited) for d, length in zip(words, lengths)]
+        interleaved = [nr.interleave(e, case.qm) for e in selected]
+        sent = nr.send(table, block, tx, **limited)
+    except (nr.Fault, ValueError) as fault:
+        raise Failed(f"case {shown(case.id)}: the library rejects it: {fault}") from None
+    degree, poly = (24, nr.CRC24A) if plan.b - a == 24 else (16, nr.CRC16)
+    attached = case.a + f"{nr.crc(block, poly):0{degree}b}"
+    shared, d, e, f = ([lists.of_library(it) for it in some] for some in (bits, words, selected, interleaved))
+    numbers = Plan(a, **{name: getattr(plan, name) for name in PLAN[1:]})
+    return Values(attached, numbers, shared, d, buffer.ncb, buffer.k0, lengths, e, f, lists.of_library(sent))
+
+
 def judged(path: str | pathlib.Path, tables: Tables, cases: list[Case]) -> typing.Iterator[tuple[Case, Values]]:
     """Each case with what the library makes of it. The chain of the tools is held to the library."""
-    # They are loaded here: who reads a suite has no need of the library.
+    # It is loaded here, as the library is.
     from linksim_tools.common.tables import table_at
-    from linksim_tools.conform.encoder.values import values_of
 
     table = table_at(path)
     for case in cases:

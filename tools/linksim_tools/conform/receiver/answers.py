@@ -12,7 +12,6 @@ from linksim_tools.common.message import shown
 from linksim_tools.conform import bits as lists
 from linksim_tools.conform import run as running
 from linksim_tools.conform.answer_lines import Repeated, Wrong, object_of, pairs_of, taken_from
-from linksim_tools.conform.command import Stopped
 from linksim_tools.conform.files import Object
 from linksim_tools.conform.receiver import steps
 from linksim_tools.conform.receiver.reception import UNSUPPORTED, Answer, Level
@@ -160,7 +159,7 @@ class Run(running.Run[typing.Tuple[str, int]]):
         for tx, line in enumerate(lines_of(case, self.manner)):
             try:
                 self.ask((case.id, tx), line)
-            except Stopped as stopped:
+            except running.Stopped as stopped:
                 place = f"{self.place((case.id, tx))}, number {number} of {len(self.suite.cases)}"
                 return self.stopped(place, stopped, self.manner.restart)
         if self.manner.restart:

@@ -143,7 +143,5 @@ def mistakes() -> typing.Iterator[Mistake]:
         said, right = f"each code block is filled up to a multiple of {width} bits", "no bit is between code blocks"
         yield mistake("filled-up", "concatenation", said, right, joined(filled_up(width)))
         yield mistake("filled-up", "concatenation", f"{said}, and G bits are sent", right, joined(filled_up(width), True))
-        for words, order in ends(width):
-            yield mistake("filled-up", "concatenation", f"output: {words}", "send all G bits", turned("joined", order))
-            yield mistake("filled-up", "selection", f"e of each code block: {words}", "E_r bits", turned("selected", order))
-            yield mistake("filled-up", "interleaving", f"f of each code block: {words}", "E_r bits", turned("interleaved", order))
+        for (words, order), (step, what, _, hook) in itertools.product(ends(width), PLACES[:3]):
+            yield mistake("filled-up", step, f"{what}: {words}", "send all G bits, E_r of each code block", turned(hook, order))
