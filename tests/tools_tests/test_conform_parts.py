@@ -30,7 +30,7 @@ class Listed(unittest.TestCase):
 
     def test_two_together_are_a_class_of_both(self) -> None:
         both = clauses_of(frozenset([MISTAKES["shift-left"], MISTAKES["fillers-one"]]))
-        self.assertEqual((both.shift(44, 16, 256), both.filler_bits(2)), ((-44) % 16, "11"))
+        self.assertEqual((both.shift(44, 16, 256), both.filled("1", "00")), ((-44) % 16, "111"))
 
     def test_two_of_one_method_are_both_made(self) -> None:
         """Also if a family makes one of them."""

@@ -13,7 +13,6 @@ from linksim_tools.common.program import Failed
 from linksim_tools.conform.files import Object
 
 
-
 class Wrong(Exception):
     """An answer cannot be judged; its text says why."""
 

@@ -38,10 +38,6 @@ def kb_of(limits: dict[int, int], graph: int, b: int) -> int:
 class Crc:
     """The CRCs of transport blocks and of code blocks (5.1, 6.2.1, 7.2.1)."""
 
-    def block(self, a: str) -> str:
-        """The bits a_0, a_1, .. of a transport block."""
-        return a
-
     def crc_of_block(self, a: int) -> str:
         """Which CRC a transport block of A bits has."""
         return "CRC24A" if a > 3824 else "CRC16"
@@ -61,8 +57,7 @@ class Crc:
 
     def attached(self, a: str) -> str:
         """A transport block with its CRC."""
-        block = self.block(a)
-        return block + self.crc(self.crc_of_block(len(a)), block)
+        return a + self.crc(self.crc_of_block(len(a)), a)
 
 
 class Segmentation:
@@ -166,16 +161,8 @@ class Coding:
         """How many columns the rows from 4 on take."""
         return information + 4
 
-    def filler_bits(self, count: int) -> str:
-        """Fillers where parity is computed."""
-        return "0" * count
-
-    def filler_places(self, count: int) -> str:
-        """Fillers in d."""
-        return lists.FILLER * count
-
     def filled(self, bits: str, fillers: str) -> str:
-        """K places of a code block: its bits and its fillers."""
+        """K places of a code block: its bits and its fillers, which are zeros where parity is computed."""
         return bits + fillers
 
     def sent_columns(self, word: str, plan: Plan) -> str:
@@ -292,20 +279,9 @@ class Clauses(Crc, Segmentation, Coding, Matching):
         """What is taken of a case; `before` is the case that stands before it in the suite."""
         return case
 
-    def code_block_crc(self, part: str, fillers: int) -> str:
-        """The parity bits of a code block that has so many fillers (5.2.2)."""
-        return self.crc("CRC24B", part)
-
-    def last_part(self, before: list[str], part: str) -> str:
-        """The bits of the block with its CRC in the last of several code blocks."""
-        return part
-
     def code_block(self, before: list[str], part: str, plan: Plan, last: bool) -> str:
-        """The K' bits of a code block (5.2.2)."""
-        if not plan.l:
-            return part
-        bits = self.last_part(before, part) if last else part
-        return bits + self.code_block_crc(bits, plan.fillers)
+        """The K' bits of a code block (5.2.2), of those before it and of its bits of the block."""
+        return part + self.crc("CRC24B", part) if plan.l else part
 
     def code_blocks(self, b: str, plan: Plan) -> list[str]:
         """The K' bits of each code block of a block with its CRC."""

@@ -9,6 +9,7 @@ import typing
 
 from linksim_tools.common.graphs import GRAPHS, LARGEST
 from linksim_tools.common.program import Failed
+from linksim_tools.conform.bits import FILLER
 from linksim_tools.conform.case import Plan, Row, Tables
 from linksim_tools.conform.clauses import Clauses, Coding, Impossible, right
 
@@ -102,9 +103,9 @@ class Encoder:
         clauses, count = self.clauses, plan.k - len(bits)
         if count < 0:
             raise Impossible("more bits than columns")
-        columns = self.columns(clauses.filled(bits, clauses.filler_bits(count)))
+        columns = self.columns(clauses.filled(bits, "0" * count))
         parity = "".join(f"{column:0{self.z}b}" for column in columns[self.information :])
-        return clauses.sent_columns(clauses.filled(bits, clauses.filler_places(count)) + parity, plan)
+        return clauses.sent_columns(clauses.filled(bits, FILLER * count) + parity, plan)
 
 
 @functools.lru_cache(maxsize=256)

@@ -8,7 +8,7 @@ import typing
 
 from linksim_tools.common.graphs import GRAPHS
 from linksim_tools.conform import bits as lists
-from linksim_tools.conform.case import STEPS, Row
+from linksim_tools.conform.case import STEPS, Plan, Row
 from linksim_tools.conform.clauses import SIZES, Clauses, right
 from linksim_tools.conform.encoder.families import after, crcs, instead, limits, numbers, orders
 from linksim_tools.conform.mistake import Catalogue, Method, Mistake, class_of
@@ -33,13 +33,23 @@ mistake("crc", "crc-parity-lowest-first", "5.1", "the parity bits are sent lowes
         "send p_0, the highest, first", ("codecrc",), family=orders.parity(lists.backwards))
 mistake("crc", "crc-octets-lowest-first", "5.1", "the CRC takes the lowest bit of each octet first",
         "take the bits in the order in which they are sent", ("codecrc",), family=crcs.over(crcs.EACH, lists.each_octet_reversed))
+
+
+def over_code_blocks(self: Clauses, right: Method, before: list[str], part: str, plan: Plan, last: bool) -> typing.Any:
+    """The K' bits of a code block, of which the last one has the CRC of the block over those before it."""
+    block = part[:-24] + self.crc("CRC24A", "".join(before) + part[:-24]) if last and plan.l else part
+    return right(before, block, plan, last)
+
+
+# The CRC of code blocks (5.2.2).
 mistake("codecrc", "code-crc-zeros", "5.2.2", "zeros stand where the CRC24B of a code block belongs",
         "write its 24 parity bits there", family=crcs.of_some(lambda *_: True, crcs.PARITIES["zeros"]))
 mistake("codecrc", "code-crc-over-fillers", "5.2.2", "the CRC24B of a code block goes over its fillers too",
-        "take the K' - L bits alone", code_block_crc=lambda _self, right, part, fillers: right(part + "0" * fillers, fillers))
+        "take the K' - L bits alone", family=crcs.of_code_blocks(
+            lambda self, _before, part, plan: self.crc("CRC24B", part + "0" * plan.fillers)))
 mistake("codecrc", "crc-after-segmentation", "6.2.1, 5.2.2",
         "the CRC of the transport block goes over the CRC24Bs before it too", "take the A bits alone",
-        last_part=lambda self, _right, before, part: part[:-24] + self.crc("CRC24A", "".join(before) + part[:-24]))
+        code_block=over_code_blocks)
 
 
 def next_size(z: int) -> int:
@@ -135,13 +145,13 @@ mistake("ldpc", "shift-multiple-dropped", "5.3.2", "an entry whose value is a mu
 mistake("ldpc", "shift-zero-dropped", "5.3.2", "an information entry of value 0 is left out",
         "only a place that is not in the table is the zero matrix", rows=zero_dropped)
 mistake("ldpc", "fillers-one", "5.3.2", "fillers are ones where parity is computed", "they count as zeros",
-        filler_bits=lambda _self, _right, count: "1" * count)
+        filled=lambda _self, right, bits, fillers: right(bits, fillers.replace("0", "1")))
 mistake("ldpc", "fillers-first", "5.2.2, 5.3.2", "the fillers stand before the bits of a code block",
         "they are the places K' to K - 1", filled=lambda _self, _right, bits, fillers: fillers + bits)
 mistake("ldpc", "fillers-sent", "5.3.2", "fillers are sent as zeros", "d has NULL there, and selection skips them",
-        filler_places=lambda _self, _right, count: "0" * count)
+        filled=lambda _self, right, bits, fillers: right(bits, fillers.replace(lists.FILLER, "0")))
 mistake("ldpc", "fillers-one-fewer", "5.3.2", "the first filler is sent as a zero", "the places K' to K - 1 are fillers",
-        filler_places=lambda _self, _right, count: ("0" + lists.FILLER * count)[:count])
+        filled=lambda _self, right, bits, fillers: right(bits, fillers.replace(lists.FILLER, "0", 1)))
 mistake("ldpc", "fillers-one-more", "5.3.2", "the last bit of a code block is left out as a filler, where it has fillers",
         "the places K' to K - 1 are fillers", filled=one_more)
 mistake("ldpc", "punctured-sent", "5.3.2", "the first 2 Zc bits are part of d, which has N + 2 Zc bits",

@@ -13,7 +13,6 @@ from linksim_tools.conform.clauses import Impossible
 from linksim_tools.conform.code import columns_of, rotated
 from linksim_tools.conform.encoder.judging import NOTHING, Made, Trial
 
-
 # How many code blocks are looked at, of how many bits, how many rows are named, and how many shifts.
 MOST, BITS, NAMED, SHIFTS = 160, 1 << 18, 8, 5
 # In fewer bits a row with two wrong shifts may look like a row with another one.

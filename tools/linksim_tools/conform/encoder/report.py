@@ -249,7 +249,7 @@ def text(made: Report) -> typing.Iterator[str]:
     yield from made.twice
 
 
-def lettered(x: float, y: int, words: str, width: int = STRIP) -> str:
+def label(x: float, y: int, words: str, width: int = STRIP) -> str:
     """Words in a picture, to the side where there is room."""
     return f'<text x="{x:.1f}" y="{y}" text-anchor="{"end" if x > width / 2 else "start"}" font-size="11">{escape(words)}</text>'
 
@@ -269,13 +269,13 @@ def codeword(values: Values, spot: Spot, step: str) -> typing.Iterator[str]:
     for (name, length), last, colour in zip(parts.items(), ends, ("#dafbe1", "#d0d7de", "#ddf4ff", "#fbefff")):
         x, width = 4 + STRIP * (last - length) / plan.n, STRIP * max(length, 0) / plan.n
         yield f'<rect x="{x:.1f}" y="26" width="{width:.1f}" height="30" fill="{colour}" stroke="#57606a" stroke-width="0.5"/>'
-        yield lettered(x + 4, 46, name, 9999) if width > NARROW else ""
+        yield label(x + 4, 46, name, 9999) if width > NARROW else ""
     for level, (name, at) in enumerate([] if step == "ldpc" else [("k0", values.k0), ("Ncb", values.Ncb)]):
         across = 4 + STRIP * at / plan.n
-        yield f'<path d="M{across:.1f} 56 v{10 + 14 * level}" stroke="#57606a"/>' + lettered(across, 78 + 14 * level, f"{name} = {at}")
+        yield f'<path d="M{across:.1f} 56 v{10 + 14 * level}" stroke="#57606a"/>' + label(across, 78 + 14 * level, f"{name} = {at}")
     across = 4 + STRIP * (spot.place + 0.5) / plan.n
     yield f'<path d="M{across:.1f} 18 l-5 -8 h10 z M{across:.1f} 18 v38" fill="#cf222e" stroke="#cf222e"/>'
-    yield lettered(across + (-8 if across > STRIP / 2 else 8), 16, "first difference") + "</svg>"
+    yield label(across + (-8 if across > STRIP / 2 else 8), 16, "first difference") + "</svg>"
 
 
 def page_lines(made: Report) -> typing.Iterator[str]:

@@ -9,7 +9,7 @@ import typing
 from linksim_tools.common.graphs import GRAPHS, STARTS
 from linksim_tools.conform.case import put
 from linksim_tools.conform.clauses import SIZES, Clauses, right
-from linksim_tools.conform.encoder.families import after, instead, mistake, told
+from linksim_tools.conform.encoder.families import Steps, after, instead, mistake, told
 from linksim_tools.conform.mistake import Method, Methods, Mistake
 
 # The numbers that a hook makes: their names and steps. A number of a case is one of several settings.
@@ -36,18 +36,16 @@ def widths() -> typing.Iterator[Mistake]:
     """Each number of the chain in each number of bits."""
     yield mistake("too-few-bits", "buffer", "rv keeps 1 bit", WIDE, versions((0, 1, 0, 1)))
     for bits in range(6, 32):
-        for hook, (name, step) in HOOKS.items():
-            if bits < 9 or hook not in ("shift", "value"):
-                yield mistake("too-few-bits", step, f"{name} keeps {bits} bits", WIDE, after(hook, cut(bits)))
-        for field, (name, steps) in SETTINGS.items():
-            yield mistake("too-few-bits", steps, f"{name} keeps {bits} bits", WIDE, told(**{field: cut(bits)}))
-        yield mistake("too-few-bits", "lengths", f"E_r keeps {bits} bits", WIDE, each_length(cut(bits)))
-        yield mistake("too-few-bits", "buffer", f"3 TBS_LBRM keeps {bits} bits", WIDE,
-                      instead("reference", lambda lbrm, c, _count, b=bits: 3 * lbrm % (1 << b) // (2 * c)))
-        yield mistake("too-few-bits", "buffer", f"the product of k0 with Ncb keeps {bits} bits", WIDE,
-                      begun(lambda n, columns, ncb, z, _, b=bits: int(n * ncb % (1 << b) // (columns * z) * z)))
-        if bits < 22:
-            yield mistake("too-few-bits", "selection", f"the counter of places keeps {bits} bits", WIDE, turned(bits))
+        made: list[tuple[str, str | Steps, Methods]] = [
+            *((name, step, after(hook, cut(bits))) for hook, (name, step) in HOOKS.items()
+              if bits < 9 or hook not in ("shift", "value")),
+            *((name, steps, told(**{field: cut(bits)})) for field, (name, steps) in SETTINGS.items()),
+            ("E_r", "lengths", each_length(cut(bits))),
+            ("3 TBS_LBRM", "buffer", instead("reference", lambda lbrm, c, _, b=bits: 3 * lbrm % (1 << b) // (2 * c))),
+            ("the product of k0 with Ncb", "buffer",
+             begun(lambda n, columns, ncb, z, _, b=bits: int(n * ncb % (1 << b) // (columns * z) * z))),
+            *([("the counter of places", "selection", turned(bits))] if bits < 22 else [])]
+        yield from (mistake("too-few-bits", step, f"{name} keeps {bits} bits", WIDE, methods) for name, step, methods in made)
 
 
 # Numbers or parts of them by other formulas, in words and as they are made.

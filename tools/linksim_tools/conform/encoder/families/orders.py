@@ -6,7 +6,7 @@ import itertools
 import typing
 
 from linksim_tools.conform.bits import Order, backwards, each_octet_reversed, in_words, inverted, octets_backwards, words_of
-from linksim_tools.conform.encoder.families import after, instead, mistake
+from linksim_tools.conform.encoder.families import after, instead, mistake, told
 from linksim_tools.conform.encoder.families.crcs import EACH, KINDS, over
 from linksim_tools.conform.mistake import Methods, Mistake
 
@@ -122,7 +122,7 @@ PLACES = (("concatenation", "output", "f of r = 0 first, its first bit first", "
 def mistakes() -> typing.Iterator[Mistake]:
     for words, order in orders():
         right = "a_0 is the highest bit of the first octet"
-        yield mistake("other-order", "crc", f"input: {words}", right, turned("block", order))
+        yield mistake("other-order", "crc", f"input: {words}", right, told(a=order))
         for steps, whose, names in KINDS:
             yield mistake("other-order", steps, f"the input of {whose}: {words}", "a_0 is taken first", over(names, order))
             yield mistake("other-order", steps, f"the parity bits of {whose}: {words}", "p_0 is sent first", parity(order, names))

@@ -42,21 +42,19 @@ NUMBERS: tuple[tuple[str, str, str, typing.Callable[..., typing.Any]], ...] = (
 MOST = 1 << 22
 
 
-def setting(name: str) -> Methods:
-    return instead("told", lambda case, before: dataclasses.replace(case, **{name: getattr(before, name)}) if before else case)
-
-
 @functools.lru_cache(maxsize=2048)
 def facts_of(case: Case) -> Facts:
     return Facts(case)
 
 
+def told(self: typing.Any, _right: Method, case: Case, before: Case | None) -> Case:
+    """The case, which is kept with the one before for those methods that are not given it."""
+    self.case, self.before = case, before
+    return case
+
+
 def number(hook: str, left: typing.Callable[..., typing.Any]) -> Methods:
     """A number of the case before."""
-    def told(self: typing.Any, _right: Method, case: Case, before: Case | None) -> Case:
-        self.before = before
-        return case
-
     def made(self: typing.Any, right: Method, *given: typing.Any) -> typing.Any:
         value = right(*given)
         return left(value, facts_of(self.before), *given) if self.before else value
@@ -77,11 +75,7 @@ def uncleared(suite: Suite) -> dict[str, str]:
 
 def register(suite: Suite) -> Methods:
     """The register of the transport block's CRC begins with what the case before left there."""
-    def told(self: typing.Any, _right: Method, case: Case, _before: Case | None) -> Case:
-        self.id = case.id
-        return case
-
-    return {"told": told, "attached": lambda self, _right, a: a + uncleared(suite)[self.id]}
+    return {"told": told, "attached": lambda self, _right, a: a + uncleared(suite)[self.case.id]}
 
 
 # What one memory keeps of a code block: of what there was, the bits, their old fillers, the plan and the suite.
@@ -121,7 +115,8 @@ def fillers(memory: typing.Callable[[], dict[str, str]]) -> Methods:
 def mistakes_of(suite: Suite) -> tuple[Mistake, ...]:
     """All of a suite, whose cases are asked in its order."""
     change = "set it anew for each case"
-    found = [mistake("left-from-before", steps, f"{name} is that of the case before", change, setting(field))
+    found = [mistake("left-from-before", steps, f"{name} is that of the case before", change, instead(
+        "told", lambda case, before, it=field: dataclasses.replace(case, **{it: getattr(before, it)}) if before else case))
              for field, (name, steps) in SETTINGS.items()]
     found += [mistake("left-from-before", step, said, change, number(hook, left)) for hook, said, step, left in NUMBERS]
     found.append(mistake("left-from-before", "crc", "the register begins with the parity bits of the case before",
