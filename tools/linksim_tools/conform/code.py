@@ -3,6 +3,7 @@
 from __future__ import annotations
 
 import csv
+import dataclasses
 import functools
 import pathlib
 import typing
@@ -121,8 +122,8 @@ def coding_of(clauses: Clauses) -> Clauses:
     return right() if all(getattr(kind, name) is it for name, it in vars(Coding).items() if not name.startswith("__")) else clauses
 
 
+@dataclasses.dataclass(eq=False)
 class TablesKey:
     """Tables that can be a key: they are the same as themselves alone."""
 
-    def __init__(self, tables: Tables) -> None:
-        self.tables = tables
+    tables: Tables

@@ -8,7 +8,7 @@ import typing
 
 from linksim_tools.common.graphs import GRAPHS
 from linksim_tools.conform import bits as lists
-from linksim_tools.conform.case import STEPS, Plan, Row
+from linksim_tools.conform.case import STEPS, Row
 from linksim_tools.conform.clauses import SIZES, Clauses, right
 from linksim_tools.conform.encoder.families import after, crcs, instead, limits, numbers, orders
 from linksim_tools.conform.mistake import Catalogue, Method, Mistake, class_of
@@ -33,15 +33,6 @@ mistake("crc", "crc-parity-lowest-first", "5.1", "the parity bits are sent lowes
         "send p_0, the highest, first", ("codecrc",), family=orders.parity(lists.backwards))
 mistake("crc", "crc-octets-lowest-first", "5.1", "the CRC takes the lowest bit of each octet first",
         "take the bits in the order in which they are sent", ("codecrc",), family=crcs.over(crcs.EACH, lists.each_octet_reversed))
-
-
-def over_code_blocks(self: Clauses, right: Method, before: list[str], part: str, plan: Plan, last: bool) -> typing.Any:
-    """The K' bits of a code block, of which the last one has the CRC of the block over those before it."""
-    block = part[:-24] + self.crc("CRC24A", "".join(before) + part[:-24]) if last and plan.l else part
-    return right(before, block, plan, last)
-
-
-# The CRC of code blocks (5.2.2).
 mistake("codecrc", "code-crc-zeros", "5.2.2", "zeros stand where the CRC24B of a code block belongs",
         "write its 24 parity bits there", family=crcs.of_some(lambda *_: True, crcs.PARITIES["zeros"]))
 mistake("codecrc", "code-crc-over-fillers", "5.2.2", "the CRC24B of a code block goes over its fillers too",
@@ -49,7 +40,8 @@ mistake("codecrc", "code-crc-over-fillers", "5.2.2", "the CRC24B of a code block
             lambda self, _before, part, plan: self.crc("CRC24B", part + "0" * plan.fillers)))
 mistake("codecrc", "crc-after-segmentation", "6.2.1, 5.2.2",
         "the CRC of the transport block goes over the CRC24Bs before it too", "take the A bits alone",
-        code_block=over_code_blocks)
+        code_block=lambda self, right, before, part, plan, last: right(
+            before, part[:-24] + self.crc("CRC24A", "".join(before) + part[:-24]) if last and plan.l else part, plan, last))
 
 
 def next_size(z: int) -> int:

@@ -59,21 +59,12 @@ def selected_bits(step: str, trial: Trial, made: Made) -> list[str] | None:
     return found if found and [len(it) for it in found] == lengths else None
 
 
-# The marks of d as zeros and ones: those that are answered, and those that are wrong.
-KNOWN, WRONG = str.maketrans("=!?", "110"), str.maketrans("=!?", "010")
-
-
-def masks(text: str, plan: Plan, digits: typing.Mapping[int, int | None]) -> list[int]:
-    """Marks of d as columns of the codeword."""
-    return columns_of("0" * 2 * plan.z + text.translate(digits), plan.z)
-
-
-def marked(d: str, answered: str, places: typing.Iterable[int]) -> str:
-    """d with `=` where the same bit was answered at these places in turn, `!` where another, and `?` where none was."""
-    marks = ["?"] * len(d)
+def marked(d: str, answered: str, places: typing.Iterable[int]) -> tuple[str, str]:
+    """Digits for the bits of d: ones for those that were answered at these places in turn, and for those that are wrong."""
+    known, wrong = ["0"] * len(d), ["0"] * len(d)
     for place, bit in zip(places, answered):
-        marks[place] = "=" if bit == d[place] else "!"
-    return "".join(marks)
+        known[place], wrong[place] = "1", "01"[bit != d[place]]
+    return "".join(known), "".join(wrong)
 
 
 def seen_in(step: str, trial: Trial) -> typing.Iterator[Seen]:
@@ -92,10 +83,11 @@ def seen_in(step: str, trial: Trial) -> typing.Iterator[Seen]:
             marks = [marked(d, e, (at for at in ring if d[at] != lists.FILLER)) for d, e in zip(words, parts or [])]
     except Impossible:
         return
-    for text, d, info in zip(marks, words, bits) if len(marks) == len(words) else ():
+    for both, d, info in zip(marks, words, bits) if len(marks) == len(words) else ():
         word = (info + "0" * plan.fillers)[: 2 * plan.z] + d.replace(lists.FILLER, "0")
         if len(word) == GRAPHS[plan.graph].columns * plan.z:
-            yield Seen(plan, columns_of(word, plan.z), masks(text, plan, KNOWN), masks(text, plan, WRONG))
+            known, wrong = (columns_of("0" * 2 * plan.z + it, plan.z) for it in both)
+            yield Seen(plan, columns_of(word, plan.z), known, wrong)
 
 
 def are_few(kept: list[Seen], z: int) -> bool:

@@ -174,12 +174,8 @@ def each_length(change: Method) -> Methods:
 
 def rest_at(place: int) -> Methods:
     """E_r with all that is left over in one code block."""
-    def lengths(self: Clauses, _right: Method, case: typing.Any, c: int, chosen: list[int]) -> list[int]:
-        unit = self.unit(case)
-        least, rest = divmod(case.g // unit, len(chosen))
-        return [(least * (r in chosen) + rest * (r == chosen[place])) * unit for r in range(c)]
-
-    return {"lengths": lengths}
+    return {**instead("is_longer", lambda j, _r, n, _longer: j == place % n),
+            **instead("longer_length", lambda least, rest: least + rest)}
 
 
 def taken_as() -> typing.Iterator[Mistake]:
