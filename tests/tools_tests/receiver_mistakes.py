@@ -246,12 +246,13 @@ class CodeBlocks(Block):
 
     def decoded_all(self, sizes: steps.Sizes, told: Arrival, process: Process) -> list[str]:
         found = super().decoded_all(sizes, told, process)
+        passed: dict[int, str] = vars(process).setdefault("passed", {})
         if told.fresh:
-            process.passed.clear()
+            passed.clear()
         for r, it in enumerate(found):
             if sizes.l and self.is_known(it) and self.fits_code_block(sizes, it):
-                process.passed.setdefault(r, it)
-        return [process.passed.get(r, it) for r, it in enumerate(found)]
+                passed.setdefault(r, it)
+        return [passed.get(r, it) for r, it in enumerate(found)]
 
 
 class Early(Receiver):

@@ -37,7 +37,7 @@ class InTheModel(unittest.TestCase):
     """Each mistake by itself."""
 
     def test_all_are_there(self) -> None:
-        self.assertEqual((len(OWN), len(SHARED), len(MISTAKES)), (59, 63, 122))
+        self.assertEqual((len(OWN), len(SHARED), len(MISTAKES)), (56, 63, 119))
         self.assertEqual({it.step for it in MISTAKES.values()}, set(STEPS))
 
     def test_each_is_named(self) -> None:

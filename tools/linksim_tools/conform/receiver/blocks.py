@@ -30,8 +30,8 @@ WANTED: dict[str, drafts.Wanted] = {
     "in thirds": lambda t, column, copy: ((column + t) % 3, column),
     "all but even": lambda t, column, copy: (t == 0 and column % 2 == 0, column),
 }
-# In which order others are tried.
-TIGHT = ("early", "extension", "parity", "even", "late")
+# In which order others are tried if those that are wanted do not fix the block, or not tightly.
+OTHERWISE = ("early", "extension", "even", "late", "parity")
 
 
 def sized(a: int, rate2048: int, versions: typing.Sequence[int], part: float | typing.Sequence[float], qm: int = 1, nl: int = 1,
@@ -92,7 +92,7 @@ class Maker:
 
     def tight(self, name: str, arrivals: list[Arrival]) -> Draft:
         """A draft with no value more than there are information bits, if one is found."""
-        tried = (self.whole(name, arrivals).critical(WANTED[wanted], seed=name) for wanted in TIGHT)
+        tried = (self.whole(name, arrivals).critical(WANTED[wanted], seed=name) for wanted in OTHERWISE)
         found = drafts.best((it for it in tried if it is not None), Draft.slack, 0)
         if found is None:
             raise NoPattern(name)

@@ -30,7 +30,6 @@ class Process:
     first_lengths: list[int] = dataclasses.field(default_factory=list)
     lengths: list[int] = dataclasses.field(default_factory=list)
     sticking: str | None = None
-    passed: dict[int, str] = dataclasses.field(default_factory=dict)
     left: list[Soft] | None = None
 
 

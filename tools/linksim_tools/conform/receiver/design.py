@@ -8,14 +8,14 @@ import sys
 import typing
 
 from linksim_tools.conform.encoder.points import first_sizes
-from linksim_tools.conform.receiver import mirrors, plain, special, steps
+from linksim_tools.conform.receiver import blocks, mirrors, plain, special, steps
 from linksim_tools.conform.receiver.chain import Receiver
 from linksim_tools.conform.receiver.blocks import Maker, sized
 from linksim_tools.conform.receiver.reception import Arrival, Case
 
 Item = typing.TypeVar("Item")
 
-# `quick` has so many cases at most.
+# Cases are added to `quick` that tell mistakes apart, up to so many in all.
 MOST = 330
 
 # The patterns of `quick`: transmissions, and which columns are wanted.
@@ -52,7 +52,7 @@ def further() -> typing.Iterator[tuple[str, list[Arrival], str]]:
     for name, arrivals in plain.configurations():
         yield from ((name, arrivals, wanted) for wanted in ("early", "late", "even"))
     for turn, ((graph, z), (smallest, largest, rate)) in enumerate(first_sizes().items()):
-        a, wanted = (largest, smallest)[turn % 2], plain.OTHERWISE[turn % 3]
+        a, wanted = (largest, smallest)[turn % 2], blocks.OTHERWISE[turn % 3]
         yield f"lifting-{graph}-{z}", sized(a, rate, [0], 0.9, qm=(1, 2, 4, 6, 8)[turn % 5]), wanted
     for count in range(3, 11):
         yield f"code-blocks-{count}", sized(3656 * count - 24, 512, [count % 4], 0.95, qm=2, over=count // 2), "early"
@@ -89,7 +89,6 @@ def designed(tables: steps.Tables, profile: str, seed: int) -> tuple[list[Case],
     cases: dict[str, Case] = {}
     for case in counted({"quick": quick, "full": full}[profile](make), "are made", profile == "full"):
         cases.setdefault(case.id, case)
-    most = MOST if profile == "quick" else len(cases)
     lacking = [f"base graph {graph}" for graph in sorted({1, 2} - tables.graphs())]
     for graph in lacking:
         print(f"the table lacks {graph}: its cases are left out", file=sys.stderr)
@@ -100,4 +99,4 @@ def designed(tables: steps.Tables, profile: str, seed: int) -> tuple[list[Case],
             by.setdefault(why and f" ({why}", []).append(name)
         said = "; ".join(", ".join(names) + why for why, names in by.items())
         print(f"no pattern is found for {len(left_out)} cases, which are left out: {said}", file=sys.stderr)
-    return [with_depth(tables, it) for it in [*cases.values()][:most]], [*lacking, *left_out]
+    return [with_depth(tables, it) for it in cases.values()], [*lacking, *left_out]

@@ -22,9 +22,6 @@ LEVELS = range(len(known_answers.LEVELS))
 # What an answer costs that a mistake does not give: if it contradicts itself, receivers differ.
 SURE, CLASH = 10, 1
 
-# How far these come differs from decoder to decoder: which code blocks pass and which bits are known is not held to them.
-UNSURE = frozenset(["iterations-2", "iterations-4", "iterations-8"])
-
 # What was answered to a transmission, a word a level.
 Word = typing.Tuple[typing.Optional[str], ...]
 
@@ -133,9 +130,6 @@ class Diagnosis:
         shown = tuple(map(known_answers.shown, answers, kept.case.meant, kept.case.arrivals))
         return self.agrees(shown, name, LEVELS[: 1 if receiver.clash else None])
 
-    def is_whole(self, name: str) -> bool:
-        return all(it is not None for it in self.words.get(name, [None]))
-
     def cost(self, mistake: str, levels: typing.Collection[int], names: typing.Sequence[str] = ()) -> int:
         """What a mistake costs: how surely it does not give all answers, or those to these cases."""
         costs = [self.costs(name, levels) for name in names or self.judged]
@@ -167,8 +161,7 @@ class Diagnosis:
         """Whether something was answered beside a block that a mistake does not give, though its case is a sure one."""
         for name in self.judged:
             answers, clash = self.suite.cases[name].answers(mistake)
-            levels = LEVELS[-1:] if mistake in UNSURE else LEVELS[1:]
-            if not clash and self.agrees(answers, name) and not all(self.agrees(answers, name, [level]) for level in levels):
+            if not clash and self.agrees(answers, name) and not all(self.agrees(answers, name, [level]) for level in LEVELS[1:]):
                 return True
         return False
 

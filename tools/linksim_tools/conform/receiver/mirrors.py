@@ -75,7 +75,7 @@ OTHERS, TRIES, FEW = 8, 60, 15
 
 def mirror(make: Maker, name: str, configurations: typing.Sequence[plain.Configuration]) -> Case | str:
     """The first of these transmissions that a receiver with this mistake delivers and a right one does not, or why none is."""
-    whys: dict[str, int] = {}
+    whys: list[str] = []
     for label, arrivals in configurations:
         try:
             bits = make.block(f"mirror {name} {label}", arrivals[0].a)
@@ -90,10 +90,10 @@ def mirror(make: Maker, name: str, configurations: typing.Sequence[plain.Configu
             continue
         if not why:
             return case
-        whys[why] = whys.get(why, 0) + 1
-        if sum(whys.values()) > OTHERS:
+        whys.append(why)
+        if len(whys) > OTHERS:
             break
-    return " or ".join(whys) or "it changes nothing at these sizes"
+    return " or ".join(dict.fromkeys(whys)) or "it changes nothing at these sizes"
 
 
 def laid_for(make: Maker, case: Case, draft: Draft, moved: set[tuple[int, int]], tries: int) -> str:

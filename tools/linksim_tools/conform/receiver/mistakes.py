@@ -235,9 +235,6 @@ mistake("decoder", "rows-of-first", "5.3.2",
         rows_used=lambda _self, _right, sizes, process: rows_of(sizes, process.first_lengths))
 mistake("decoder", "last-row", "5.3.2", "the last row is not used", "use all rows",
         rows_used=lambda self, _right, sizes, *_: len(self.rows(sizes).rows) - 1)
-for number, name in ((2, "two"), (4, "four"), (8, "eight")):
-    mistake("decoder", f"iterations-{number}", "-", f"{name} iterations",
-            "more iterations; those that are measured stand in the report", iterations=lambda *_, it=number: it)
 mistake("decision", "zeros-delivered", "5.1", "bits that are not known count as zeros, and a CRC that fits is enough",
         "a block of zeros fits its CRC: hand up nothing while a bit is not known", is_known=lambda *_: True)
 mistake("decision", "crc-unchecked", "5.1", "the CRC of the transport block is not checked",

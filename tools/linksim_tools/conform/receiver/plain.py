@@ -97,10 +97,6 @@ def configurations() -> typing.Iterator[Configuration]:
     yield from of_several()
 
 
-# In which order other columns are tried if those that are wanted do not fix the block.
-OTHERWISE = ("early", "extension", "even", "late", "parity")
-
-
 def step_of(name: str) -> str:
     """What a case of these transmissions is for."""
     if "qm" in name or "uneven" in name or "then" in name:
@@ -118,7 +114,7 @@ def about(arrivals: list[Arrival], wanted: str) -> str:
 
 def plain(make: Maker, name: str, arrivals: list[Arrival], wanted: str) -> typing.Iterator[Case]:
     """A case of these transmissions, if a pattern is found."""
-    for order in dict.fromkeys((wanted, *OTHERWISE)):
+    for order in dict.fromkeys((wanted, *blocks.OTHERWISE)):
         try:
             draft = make.draft(f"{name} {wanted}", arrivals, order)
         except steps.Impossible:

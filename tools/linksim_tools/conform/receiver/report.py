@@ -123,7 +123,7 @@ def steps_of(suite: Suite, of: Diagnosis, failing: list[str]) -> dict[str, share
     for step, title in STEPS.items():
         names = [name for name, kept in suite.cases.items() if kept.case.step == step]
         wrong = [name for name in failing if name in set(names)]
-        passed = [name for name in names if name not in set(wrong) and of.is_whole(name)]
+        passed = [name for name in names if name not in set(wrong) and None not in of.words.get(name, [None])]
         found[step] = shared.Step(title, len(passed), wrong, len(names) - len(wrong) - len(passed))
     return found
 

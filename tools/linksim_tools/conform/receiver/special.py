@@ -98,18 +98,19 @@ def of_full_buffers(make: Maker, a: int, rate: int) -> typing.Iterator[Case]:
         yield followed(f"fresh-after-all-{a}-{name}", what, make.whole(f"full {a}", told), other)
 
 
-def of_fresh(make: Maker, a: int, name: str, version: int, what: str, wanted: str = "early") -> typing.Iterator[Case]:
-    """A case of a fresh block after another one in the same process, of which these columns arrived."""
+# A fresh block after another one in the same process: a name, its rv, what it is, which columns arrive, and how strong.
+FRESH = (
+    ("fresh", 0, "a fresh block, weaker than the one before", "early", "qQ"),
+    ("fresh-rv2", 2, "a fresh block with rv 2", "early", "qQ"),
+    ("fresh-nothing", 0, "a fresh block of which nothing arrives", "early", "00"),
+    ("fresh-late", 0, "a fresh block, weaker than the one before, by late columns", "late", "qQ"),
+)
+
+
+def of_fresh(make: Maker, a: int, name: str, version: int, what: str, wanted: str, strength: str) -> typing.Iterator[Case]:
     before = f"before {a}" if wanted == "early" else f"before {name} {a}"
     one, other = (make.draft(seed, sized(a, 2048, [rv], 0.97), wanted) for seed, rv in ((before, 0), (f"{name} {a}", version)))
-    yield followed(f"{name}-{a}", what, one, other)
-
-
-def of_fresh_nothing(make: Maker, a: int) -> typing.Iterator[Case]:
-    """A case of a fresh block that does not arrive, after another one in the same process."""
-    told = sized(a, 2048, [0], 0.97)
-    what = "a fresh block of which nothing arrives"
-    yield followed(f"fresh-nothing-{a}", what, make.draft(f"before {a}", told), make.whole(f"after {a}", told), "00")
+    yield followed(f"{name}-{a}", what, one, other, strength)
 
 
 def woven(name: str, what: str, made: dict[int, Draft]) -> Case:
@@ -126,17 +127,14 @@ def of_processes(make: Maker, a: int) -> typing.Iterator[Case]:
         yield woven(f"{name}-{a}", f"processes {first} and {second} in turn", {first: one, second: other})
 
 
-def of_process_sizes(make: Maker) -> typing.Iterator[Case]:
+def of_many_processes(make: Maker) -> typing.Iterator[Case]:
     short = sized(24, 2048, [0, 0], 0.9)
     made = {process: make.draft(f"{name} 24", short, "even") for process, name in ((9, "ninth"), (15, "last"))}
     yield woven("processes-last", "processes 9 and 15 in turn", made)
-    made = {1: make.draft("short", short, "even"), 2: make.draft("long", sized(296, 2048, [0, 2], 0.6), "even")}
-    yield woven("processes-sizes", "two processes with blocks of other sizes", made)
-
-
-def of_all_processes(make: Maker) -> typing.Iterator[Case]:
     yield woven("processes-all", "16 processes in turn", {
         it: make.draft(f"process {it}", sized(24, 2048, [it % 4, 0], 0.9), "even") for it in range(16)})
+    made = {1: make.draft("short", short, "even"), 2: make.draft("long", sized(296, 2048, [0, 2], 0.6), "even")}
+    yield woven("processes-sizes", "two processes with blocks of other sizes", made)
 
 
 def of_code_blocks(make: Maker, tag: str, a: int, rate: int) -> typing.Iterator[Case]:
@@ -214,12 +212,9 @@ def families(make: Maker) -> typing.Iterator[typing.Iterator[Case]]:
     graphs = make.tables.graphs()
     for place, a in enumerate(it for it, graph in ((SMALLEST, 2), (OTHER, 1)) if graph in graphs):
         yield of_values(make, a, place == 0)
-        yield of_fresh(make, a, "fresh", 0, "a fresh block, weaker than the one before")
-        yield of_fresh(make, a, "fresh-rv2", 2, "a fresh block with rv 2")
-        yield of_fresh_nothing(make, a)
+        yield from (of_fresh(make, a, *it) for it in FRESH[: 4 if a == SMALLEST else 3])
         yield from (of_rounds(make, a), of_contents(make, a), of_full_buffers(make, a, 2048))
-    yield of_fresh(make, SMALLEST, "fresh-late", 0, "a fresh block, weaker than the one before, by late columns", "late")
-    yield from (of_processes(make, SMALLEST), of_processes(make, OTHER), of_process_sizes(make))
+    yield from (of_processes(make, SMALLEST), of_processes(make, OTHER), of_many_processes(make))
     yield from (of_part_of_crc(make, a, rate) for a, rate in ((SMALLEST, 2048), (3832, 2048)))
     several = [it for it in (("two", 3832, 512, 2), ("two-of-1", 8432, 2048, 1)) if it[3] in graphs]
     for place, (tag, a, rate, _) in enumerate(several):
@@ -228,7 +223,7 @@ def families(make: Maker) -> typing.Iterator[typing.Iterator[Case]]:
             yield of_retransmissions(make, tag, a, rate, which)
     yield of_beginning(make, "zeros", "0" * 14 + "1011001110")
     yield of_beginning(make, "ones", "1" * 14 + "0011001110")
-    yield from (of_parts(make), of_doubts(make), of_full_buffers(make, 3832, 512), of_all_processes(make))
+    yield from (of_parts(make), of_doubts(make), of_full_buffers(make, 3832, 512))
 
 
 def cases(make: Maker) -> typing.Iterator[Case]:

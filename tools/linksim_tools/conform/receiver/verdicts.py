@@ -76,10 +76,6 @@ class Verdict:
                 "cut_short": self.cut_short}
 
 
-def gives(names: list[str]) -> str:
-    return shared.what_gives([[name] for name in names])
-
-
 class Long(Verdict):
     kind, rank = "long", 0
 
@@ -113,7 +109,7 @@ class Gives(Verdict):
         else:
             but = f" but {len(against)}: {shared.listed(against)}" if against else ""
             said, notes = f"the blocks of all cases{but}", seen.clash_note
-        return cls(f"{gives(names)} {said}", names, against, notes, apart=seen.of.apart(names))
+        return cls(f"{shared.what_gives([[it] for it in names])} {said}", names, against, notes, apart=seen.of.apart(names))
 
 
 class Right(Verdict):
@@ -167,7 +163,7 @@ class Proved(Verdict):
         delivered = shared.listed([it for it in given[first] if it in mirrors])
         others = [it for it in seen.failing if it not in given[first]]
         if condition and not others:
-            said = f"{gives(names)} all that fails, {condition.line('others that it would change')}"
+            said = f"{shared.what_gives([[it] for it in names])} all that fails, {condition.line('others that it would change')}"
             return cls(said, names, notes=[f"it is proved by what is delivered: {delivered}"], apart=apart)
         notes = [f"{shared.counted(len(some), 'case')} {words}: {shared.listed(some)}" for some, words in (
             (spared[first], "that it would change are right"), (others, "that fail are not explained by it")) if some]
