@@ -1,6 +1,6 @@
 """What the crates' texts are to keep that no proof says. Of proof modules those that a crate above cites are public,
-and no other ones. Every lemma is cited and stated once, every public call has a caller or is for users. Lines and files are
-short."""
+and no other ones. Every lemma is cited and stated once, every public call has a caller or is for users. Lines, files and
+lists of parameters are short."""
 
 import pathlib
 import re
@@ -115,6 +115,40 @@ class Length(unittest.TestCase):
         kept = [path.relative_to(root) for path in sorted(found) if "out" not in path.relative_to(root).parts]
         lines = {str(path): (root / path).read_bytes().count(b"\n") for path in kept}
         self.assertEqual({name: count for name, count in lines.items() if count > LINES + 50 * (name in LONGER_FILES)}, {})
+
+
+# A function has at most so many parameters, but for the calls whose parameters are those of C's signatures.
+PARAMETERS = 7
+A_HEAD = re.compile(r"\bfn (\w+)(?:<[^()]*>)?\(")
+ITSELF = re.compile(r"\s*(?:&(?:'\w+ )?)?(?:mut )?self\b")
+FOR_C = re.compile(r'extern "C" fn (\w+)')
+
+
+def parameters(text: str) -> int:
+    """How many parameters stand at the beginning of a text that goes on behind the bracket of their list."""
+    open_brackets, count = 1, int(bool(ITSELF.match(text)))
+    for at, sign in enumerate(text):
+        open_brackets += (sign in "([") - (sign in ")]")
+        if not open_brackets:
+            return count
+        count += open_brackets == 1 and sign == ":" and "::" not in text[at - 1 : at + 2]
+    return count
+
+
+class Parameters(unittest.TestCase):
+    """Of all crates' functions."""
+
+    def test_functions_have_few(self) -> None:
+        """What travels together has a type (`LinkParams` of nr_calls)."""
+        sources = texts("*/src/**/*.rt")
+        for_c = {name for text in sources.values() for name in FOR_C.findall(text)}
+        more = [
+            f"{path.relative_to(CRATES)}: {head[1]} has {parameters(text[head.end() :])}"
+            for path, text in sources.items()
+            for head in A_HEAD.finditer(text)
+            if head[1] not in for_c and parameters(text[head.end() :]) > PARAMETERS
+        ]
+        self.assertEqual(more, [], f"more than {PARAMETERS} parameters")
 
 
 class PublicCalls(unittest.TestCase):

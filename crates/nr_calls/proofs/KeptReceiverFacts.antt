@@ -149,6 +149,13 @@ start-is table digest settings a room p link header octets heard planned fits li
     (ap (λ (xs : List ℕ). Ok xs) (sym (octets-is ∙ ap (λ (h : List ℕ). h ++ flat_map record_octets heard) header-is
     ∙ ap (λ (s : List HeardBits). room_header digest link ++ flat_map record_octets s) heard-is)))
 
+-- a new receiver whose link is refused
+pub unlinked : (table : Entries) (digest : ℕ) (settings : Settings) (a room : ℕ) (p : Planned) (e : Fault)
+    → planned_said settings.rate2048 a ≡ Ok p → (room == room_length p.graph p.plan) ≡ true
+    → with_fault fault.Desk (link_said table settings a) ≡ Err e → start_by table digest settings a room ≡ Err e
+unfolding start_by
+unlinked table digest settings a room p e planned fits refused = rw (planned, fits, refused) refl
+
 -- a header and records make the room of both
 pub room-is : (digest : ℕ) (link : Link) (header octets : List ℕ) (heard : List HeardBits)
     → octets ≡ header ++ flat_map record_octets heard

@@ -2,9 +2,8 @@
 
 ghost use Rattle.std.specs.Prelude.{◌≡◌, ℕ, ◌++◌, Err, flat_map, length, map, false, true, IfErr, IfOk};
 ghost use Rattle.nr_refusal.specs.Refusal.{Gives, or_fault, with_fault};
-ghost use Rattle.nr_shifttable.specs.Accepted.{IsTable};
 ghost use Rattle.nr_blockdesk.specs.{Explains.reception, Explains.reception_said, Receiving.AreStoresFor, Receiving.RefusesAs};
-ghost use Rattle.nr_calls.specs.Keeping.{IsKept, arriving_by, arriving_said, kept_places, kept_room, room_said, start_by};
+ghost use Rattle.nr_calls.specs.Keeping.{IsKept, arriving_said, kept_places, kept_room, room_said};
 ghost use Rattle.nr_calls.specs.{Crossing.settings_in, Crossing.tx_of, Entries.are_placed, Keeping.KeptIsOnly, Keeping.start_said};
 ghost use Rattle.nr_calls.specs.inside.Words.{IsTaken, TakesSaid, arriving, taken_room};
 ghost use Rattle.nr_calls.specs.{Receiving.heard_octet, Rooms.record_octets, Rooms.records_in, Rooms.room_header};
@@ -14,16 +13,15 @@ use crate::crossing::{NrSettings, NrTx};
 use crate::entries::{NrEntry, table_by};
 use crate::fault::Fault;
 use crate::laws;
-use crate::linking::link_on;
+use crate::linking::{LinkParams, link_on};
 use crate::plan::plan_on;
 use crate::receiving::{left_of, receiver_over};
 use crate::resuming::resumed;
 use crate::rooms::{digest_of, octets_of, positions, room_length, room_octets, stores_in};
 use crate::table::graph_number;
 use crate::taken::{KeptRoom, Taken};
-use nr_blockdesk::{Link, Receiver, Settings, Tx, Unrecorded};
+use nr_blockdesk::{Link, Receiver, Tx, Unrecorded};
 use nr_harqbuf::Store;
-use nr_shifttable::Table;
 use std::alloc::{AllocError, Global};
 
 // The version of the room's layout.
@@ -56,7 +54,8 @@ pub fn nr_receiver_start(
         (start_said table.now (settings_in settings.now) a (length room.old)) }
     ensures placed { are_placed table.now ≡ false → result ≡ 31 }
 {
-    match started(alloc, table, settings.settings(), a, room.len()) {
+    let params = LinkParams::of(table, settings, a);
+    match started(alloc, params, room.len()) {
         Ok(octets) => {
             room.copy_from_slice(&octets);
             0
@@ -65,45 +64,21 @@ pub fn nr_receiver_start(
     }
 }
 
-// The room of a receiver that has received nothing, by a shift table's entries.
-#[tactic(auto, unfolding(crate::specs::Keeping::start_said))]
-fn started(
-    alloc: Global,
-    table: &[NrEntry],
-    settings: Settings,
-    a: u32,
-    room: usize,
-) -> Result<Vec<u8>, Fault>
+// The room of a receiver that has received nothing.
+#[tactic(auto, unfolding(crate::specs::Keeping::start_said, crate::specs::Keeping::start_by))]
+fn started(alloc: Global, params: LinkParams<'_>, room: usize) -> Result<Vec<u8>, Fault>
     ensures said { Gives Fault.Memory (λ octets. octets.items) result
-        (start_said table.now settings a room) }
+        (start_said params.entry.entries.now params.entry.settings params.entry.a room) }
     ensures room { IfOk result (λ octets. length octets.items ≡ room) }
-    ensures placed { are_placed table.now ≡ false → result ≡ Err Fault.Entries }
+    ensures placed { are_placed params.entry.entries.now ≡ false → result ≡ Err Fault.Entries }
 {
-    let digest = digest_of(table);
-    let table = table_by(alloc, table)?;
-    start_by(alloc, &table, digest, settings, a, room)
-}
-
-// The room of a receiver that has received nothing, by a shift table.
-#[tactic(auto, unfolding(crate::specs::Keeping::start_by))]
-fn start_by(
-    alloc: Global,
-    table: &Table,
-    digest: u32,
-    settings: Settings,
-    a: u32,
-    room: usize,
-) -> Result<Vec<u8>, Fault>
-    requires { IsTable table.now }
-    ensures said { Gives Fault.Memory (λ octets. octets.items) result
-        (start_by table.now digest settings a room) }
-    ensures room { IfOk result (λ octets. length octets.items ≡ room) }
-{
-    let plan = plan_on(settings.rate2048, a)?;
+    let digest = digest_of(params.entries);
+    let table = table_by(alloc, params.entries)?;
+    let plan = plan_on(params.settings.rate2048, params.a)?;
     if room != room_length(&plan) {
         return Err(Fault::Room);
     }
-    let link = link_on(table, settings, a)?;
+    let link = link_on(&table, params.settings, params.a)?;
     let header = header_on(alloc, &link, digest)?;
     let receiver = receiver_over(alloc, link)?;
     room_on(header, &receiver)
@@ -145,16 +120,8 @@ pub fn nr_receiver_take(
         left: left.len(),
         block: block.len(),
     };
-    match take_up(
-        alloc,
-        table,
-        settings.settings(),
-        a,
-        room,
-        places,
-        &tx.tx(),
-        heard,
-    ) {
+    let params = LinkParams::of(table, settings, a);
+    match take_up(alloc, params, room, places, &tx.tx(), heard) {
         Ok(taken) => {
             taken.write(room, outcome, left, block);
             0
@@ -163,51 +130,29 @@ pub fn nr_receiver_take(
     }
 }
 
-// What a receiver has after one more transmission, by a shift table's entries.
-#[tactic(auto, unfolding(crate::specs::Keeping::arriving_said))]
+// What a receiver has after one more transmission. All is made before anything is written, so that a refusal writes
+// nothing.
+#[tactic(auto, unfolding(crate::specs::Keeping::arriving_said, crate::specs::Keeping::arriving_by))]
 fn take_up(
     alloc: Global,
-    table: &[NrEntry],
-    settings: Settings,
-    a: u32,
+    params: LinkParams<'_>,
     room: &[u8],
     places: KeptRoom,
     tx: &Tx,
     octets: &[u8],
 ) -> Result<Taken, Fault>
-    ensures said { TakesSaid result (arriving_said table.now settings a room.now places tx.now octets.now) }
+    ensures said { TakesSaid result (arriving_said params.entry.entries.now
+        params.entry.settings params.entry.a room.now places tx.now octets.now) }
     ensures room { IfOk result (λ taken. taken_room places taken ≡ true) }
-    ensures placed { are_placed table.now ≡ false → result ≡ Err Fault.Entries }
+    ensures placed { are_placed params.entry.entries.now ≡ false → result ≡ Err Fault.Entries }
 {
-    let digest = digest_of(table);
-    let table = table_by(alloc, table)?;
-    take_by(alloc, &table, digest, settings, a, room, places, tx, octets)
-}
-
-// What a receiver has after one more transmission, by a shift table. All is made before anything is written, so that a
-// refusal writes nothing.
-#[tactic(auto, unfolding(crate::specs::Keeping::arriving_by))]
-fn take_by(
-    alloc: Global,
-    table: &Table,
-    digest: u32,
-    settings: Settings,
-    a: u32,
-    room: &[u8],
-    places: KeptRoom,
-    tx: &Tx,
-    octets: &[u8],
-) -> Result<Taken, Fault>
-    requires { IsTable table.now }
-    ensures said { TakesSaid result
-        (arriving_by table.now digest settings a room.now places tx.now octets.now) }
-    ensures room { IfOk result (λ taken. taken_room places taken ≡ true) }
-{
-    let plan = plan_on(settings.rate2048, a)?;
-    if !places.is_for(&plan, a) {
+    let digest = digest_of(params.entries);
+    let table = table_by(alloc, params.entries)?;
+    let plan = plan_on(params.settings.rate2048, params.a)?;
+    if !places.is_for(&plan, params.a) {
         return Err(Fault::Room);
     }
-    let link = link_on(table, settings, a)?;
+    let link = link_on(&table, params.settings, params.a)?;
     let header = header_on(alloc, &link, digest)?;
     let stores = stores_on(alloc, &link, &header, room)?;
     take_on(alloc, link, stores, header, tx, octets)
