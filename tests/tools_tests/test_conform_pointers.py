@@ -7,8 +7,9 @@ import typing
 import unittest
 
 import conform_shared
-from linksim_tools.conform.case import Case
-from linksim_tools.conform.clauses import Clauses
+from linksim_tools.conform.bits import words_of
+from linksim_tools.conform.case import Case, Plan
+from linksim_tools.conform.clauses import SIZES, Clauses
 from linksim_tools.conform.encoder import report as reporting
 
 SEQUENCE = f"{0x9D4F13C2B76E0A85D3F1247C9B60E58A:0128b}" * 20_000
@@ -46,6 +47,40 @@ class Pointers(unittest.TestCase):
         said = self.said(shift=lambda self, value, z, largest: (value + (value % 7 == 3)) % z)
         self.assertRegex(said, r"shifts that were used: V = \d+, Zc = \d+: P = \d+, used is \d+")
 
+    def test_no_shifts_of_columns_in_reverse(self) -> None:
+        """A column of a few ones in reverse looks as if it were rotated."""
+        def sent_columns(self: Clauses, word: str, plan: Plan) -> str:
+            columns = words_of(word, plan.z)
+            first = plan.k // plan.z + 10
+            return Clauses.sent_columns(self, "".join([*columns[:first], *(it[::-1] for it in columns[first:])]), plan)
+
+        said = self.said(sent_columns=sent_columns)
+        self.assertNotIn("shifts that were used", said)
+        self.assertIn("only rows from 10 on of base graph 1 are wrong", said)
+
+    def test_what_has_no_name_has_a_pointer(self) -> None:
+        """What differs is told where nothing gives it: which number, which column, which places, how many bits."""
+        planted: dict[str, dict[str, typing.Callable[..., typing.Any]]] = {
+            "the parity bits of the CRC of 16 bits are rotated by 1 to the left": {
+                "crc": lambda self, name, bits: (Clauses.crc(self, name, bits) * 2)[1 : self.polynomial(name)[0] + 1]},
+            "the set index is the first number of the plan that differs, in each case that fails": {
+                "set_index": lambda self, z: SIZES.index(z) % 8},
+            "only column 23 of base graph 1 is wrong": {"sent_columns": lambda self, word, plan: Clauses.sent_columns(
+                self, word[: plan.k + plan.z] + "0" * plan.z + word[plan.k + 2 * plan.z :], plan)},
+            "E adds up to less than is right": {"lengths": lambda self, case, c, chosen: [
+                max(it - 8, 0) if case.g % 3 == 0 else it for it in Clauses.lengths(self, case, c, chosen)]},
+            "E has the right lengths, of which others are the longer ones": {
+                "is_longer": lambda self, j, r, counted, longer: longer > 0 and r % 3 == 0},
+            "bits, not always as many, are missing": {
+                "selected": lambda self, d, first, *given: Clauses.selected(self, d, first + given[1] % 7, *given)},
+            "only bits at places that are 0 modulo 64 differ": {"joined": lambda self, f: "".join(
+                "1" + word[1:] for word in words_of(Clauses.joined(self, f), 64))},
+            "only the last bit of each list differs": {"joined": lambda self, f: Clauses.joined(self, f)[:-1] + "0"},
+        }
+        for wanted, methods in planted.items():
+            with self.subTest(wanted):
+                self.assertIn(wanted, self.said(**methods))
+
     def test_lengths_are_composed(self) -> None:
         """Of another unit and another place of the longer ones, and of a value of NL that is taken for another one."""
         said = self.said(lengths=lambda self, case, c, chosen: [
@@ -68,7 +103,8 @@ class Pointers(unittest.TestCase):
 
     def test_an_earlier_step_that_is_not_answered(self) -> None:
         """A fault in LDPC is not told again as one of selection where d is not answered, as a DUT leaves it out."""
-        answers = conform_shared.answers_of(type("Wrong", (Clauses,), {"shift": lambda self, value, z, _: (value + value % 7) % z})())
+        wrong = type("Wrong", (Clauses,), {"shift": lambda self, value, z, _: (value + value % 7) % z})
+        answers = conform_shared.answers_of(wrong())
         for name, answer in answers.items():
             answer.d = None if conform_shared.suite().cases[name].mask != "all" else answer.d
         made = reporting.report(conform_shared.suite(), answers)

@@ -10,10 +10,8 @@ import typing
 from linksim_tools.common import files, provenance
 from linksim_tools.common.message import shown
 from linksim_tools.common.program import Failed, name_of
-from linksim_tools.conform import bits as lists
-from linksim_tools.conform import code
+from linksim_tools.conform import bits as lists, code
 from linksim_tools.conform.case import Tables
-from linksim_tools.conform.bits import PACKINGS
 
 FORMAT = 1
 # What suites are for, by the name of their format, and the words that write them.
@@ -26,7 +24,7 @@ Read = typing.TypeVar("Read")
 
 def packed(form: str, bits: str) -> Object:
     """A list of bits with their number, as tools/vectors packs it."""
-    return {"count": len(bits), form: PACKINGS[form](bits)}
+    return {"count": len(bits), form: lists.PACKINGS[form](bits)}
 
 
 def listed(d: str) -> str:

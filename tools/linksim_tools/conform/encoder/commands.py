@@ -12,11 +12,7 @@ from linksim_tools.common.program import Failed
 from linksim_tools.conform.bits import PACKINGS
 from linksim_tools.conform.case import BITS, FIELDS, STEPS, Answer
 from linksim_tools.conform.commands import PROFILES, Words, chosen, command_of, reported, save, written
-from linksim_tools.conform.encoder import answers as answering
-from linksim_tools.conform.encoder import design, points
-from linksim_tools.conform.encoder import report as reporting
-from linksim_tools.conform.encoder import run as running
-from linksim_tools.conform.encoder import suite as suites
+from linksim_tools.conform.encoder import answers as answering, design, points, report as reporting, run as running, suite as suites
 from linksim_tools.conform.encoder.judging import NOTHING, Trial
 from linksim_tools.conform.encoder.mistakes import MISTAKES
 from linksim_tools.conform.encoder.search import outcome

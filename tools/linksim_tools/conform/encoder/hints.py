@@ -8,7 +8,7 @@ import math
 import typing
 
 from linksim_tools.conform.case import NAMES
-from linksim_tools.conform.clauses import Impossible
+from linksim_tools.conform.clauses import Clauses, Impossible
 from linksim_tools.conform.conditions import NUMBERS
 from linksim_tools.conform.encoder import displacement
 from linksim_tools.conform.encoder.judging import NOTHING, Made, Trial, Trials
@@ -44,7 +44,7 @@ def of_plan(trials: list[Trial]) -> list[str]:
         pairs = [(getattr(trial.made("plan", NOTHING), name), (trial.answer.plan or {}).get(name)) for trial in trials]
         differing = [(right, answered) for right, answered in pairs if answered is not None and answered != right]
         if differing:
-            return exchanged(words, differing)
+            return exchanged(words, differing) or [f"{words} is the first number of the plan that differs, in each case that fails"]
     return []
 
 
@@ -56,13 +56,20 @@ def of_k0(trials: list[Trial]) -> list[str]:
     return exchanged("k0 / Zc", [(right // z, (answered or 0) // z) for right, answered, z in found if answered != right])
 
 
+# What may be said of E of all code blocks, of those that were answered and of the right ones.
+LENGTHS: tuple[tuple[str, typing.Callable[[list[int], list[int]], bool]], ...] = (
+    ("of the code blocks stands in reverse", lambda one, two: one == two[::-1]),
+    ("has the right numbers, at other code blocks", lambda one, two: sorted(one) == sorted(two)),
+    ("has the right lengths, of which others are the longer ones", lambda one, two: set(one) <= set(two)),
+    ("adds up to less than is right", lambda one, two: sum(one) < sum(two)),
+    ("adds up to more than is right", lambda one, two: sum(one) > sum(two)),
+)
+
+
 def of_lengths(trials: list[Trial]) -> list[str]:
     """E of each code block, if it is that of others."""
     pairs = [(trial.answer.E or [], trial.made("E", NOTHING)) for trial in trials]
-    if all(answered == right[::-1] for answered, right in pairs):
-        return ["E of the code blocks stands in reverse"]
-    is_moved = all(sorted(answered) == sorted(right) for answered, right in pairs)
-    return ["E has the right numbers, at other code blocks"] if is_moved else []
+    return next(([f"E {said}"] for said, is_so in LENGTHS if all(is_so(*pair) for pair in pairs)), [])
 
 
 def parts_of(value: typing.Any) -> list[str]:
@@ -139,17 +146,33 @@ def of_sequence(step: str, trials: list[Trial]) -> list[str]:
 
 
 def of_parity(step: str, trials: list[Trial]) -> list[str]:
-    """A line if parity bits of a CRC never change."""
-    parities: dict[int, list[str]] = {}
-    for _, (_, parity) in itertools.chain.from_iterable(of_answer(step, trial) for trial in trials):
-        parities.setdefault(len(parity), []).append(parity)
+    """A line if parity bits of a CRC never change, or are rotated."""
+    parities: dict[int, list[tuple[str, str]]] = {}
+    for name, (bits, parity) in itertools.chain.from_iterable(of_answer(step, trial) for trial in trials):
+        parities.setdefault(len(parity), []).append((parity, Clauses().crc(name, bits)))
     found = []
     for length, listed in parities.items():
-        fixed = [f"p_{at} = {listed[0][at]}" for at in range(length) if len({it[at] for it in listed}) == 1]
+        fixed = [f"p_{at} = {listed[0][0][at]}" for at in range(length) if len({it[at] for it, _ in listed}) == 1]
+        turned = [by for by in range(1, length) if all(it == wanted[by:] + wanted[:by] for it, wanted in listed)]
         if len(listed) >= 6 and fixed:
             said = ", ".join(fixed[:8]) + (", .." if len(fixed) > 8 else "")
             found.append(f"parity bits of the CRC of {length} bits that never change: {said}")
+        elif len(listed) > 1 and turned:
+            found.append(f"the parity bits of the CRC of {length} bits are rotated by {turned[0]} to the left")
     return found
+
+
+def of_places(step: str, trials: list[Trial]) -> list[str]:
+    """A line if only the last bits differ, or only bits at places that have the same remainder by a word."""
+    found = [(len(two), [at for at, (bit, other) in enumerate(zip(one, two)) if bit != other])
+             for _, one, two in differing(step, trials) if len(one) == len(two)]
+    if len(found) > 2 and all(places == [length - 1] for length, places in found):
+        return ["only the last bit of each list differs"]
+    for width in (64, 32, 16, 8):
+        rests = [at % width for _, places in found for at in places]
+        if len(rests) > width and len(set(rests)) == 1:
+            return [f"only bits at places that are {rests[0]} modulo {width} differ"]
+    return []
 
 
 def of_counts(step: str, trials: list[Trial]) -> list[str]:
@@ -171,9 +194,10 @@ def in_words(shifts: list[displacement.Shift], count: int) -> list[str]:
     """What shifts by different numbers of bits have in common: these are whole words."""
     by = [it.missing for it in shifts]
     width = functools.reduce(math.gcd, by, 0)
-    if 100 * len(by) < MOST * count or width < LEAST_WORD or width & (width - 1) or min(by) < 0 < max(by):
+    if 100 * len(by) < MOST * count or min(by) < 0 < max(by):
         return []
-    return [f"a multiple of {width} bits is {'missing' if by[0] > 0 else 'too many'} (in {len(by)} of {count} that fail)"]
+    said = "bits, not always as many, are" if width < LEAST_WORD or width & (width - 1) else f"a multiple of {width} bits is"
+    return [f"{said} {'missing' if by[0] > 0 else 'too many'} (in {len(by)} of {count} that fail)"]
 
 
 def lines(step: str, trials: list[Trial], all_trials: Trials) -> list[str]:
@@ -183,6 +207,6 @@ def lines(step: str, trials: list[Trial], all_trials: Trials) -> list[str]:
         if told:
             return told(trials)
         moved = of_shifts(step, trials, all_trials)
-        return of_sequence(step, trials) or [*of_parity(step, trials), *moved, *of_counts(step, trials)]
+        return of_sequence(step, trials) or [*of_parity(step, trials), *moved, *of_counts(step, trials), *of_places(step, trials)]
     except Impossible:
         return []

@@ -15,8 +15,9 @@ from linksim_tools.conform.encoder.judging import NOTHING, Made, Trial
 
 # How many code blocks are looked at, of how many bits, how many rows are named, and how many shifts.
 MOST, BITS, NAMED, SHIFTS = 160, 1 << 18, 8, 5
-# In fewer bits a row with two wrong shifts may look like a row with another one.
-FEW_BITS = 16
+# In fewer bits, or of fewer ones, a row with two wrong shifts or in reverse may look like a row with another shift. Others may by
+# chance, but no more than one of so many.
+FEW_BITS, FEW_ONES, SOME = 16, 5, 20
 
 # How many code blocks of each size are looked at. A size tells a value by its residue alone, so all sizes of a set are wanted.
 EACH = 3
@@ -151,6 +152,7 @@ def of_rows(seen: list[Seen]) -> typing.Iterator[str]:
         good = {column - it.information for it in those for column, known in enumerate(it.known)
                 if known == it.whole and not it.wrong[column] and it.columns[column]}
         words = named(sorted(bad), GRAPHS[graph].rows - 1) if bad and min(bad) >= 4 else ""
+        words = f"column {GRAPHS[graph].information + min(bad)}" if len(bad) == 1 and min(bad) < 4 else words
         if words:
             always = "" if bad & good else ", and always"
             yield f"only {words} of base graph {graph} {'are' if words.startswith('rows') else 'is'} wrong{always}"
@@ -184,6 +186,7 @@ def of_columns(seen: list[Seen]) -> typing.Iterator[str]:
 def of_shifts(seen: list[Seen], tables: Tables) -> typing.Iterator[str]:
     """The shifts that were used, where one entry of a row of the extension has another one, with what was answered as its input."""
     found: dict[tuple[int, int, int], set[int]] = {}
+    tried = fitted = 0
     for it in seen:
         z, index = it.plan.z, it.plan.set
         columns = [one ^ wrong for one, wrong in zip(it.columns, it.wrong)]
@@ -193,14 +196,16 @@ def of_shifts(seen: list[Seen], tables: Tables) -> typing.Iterator[str]:
             for column, value in inputs:
                 rest ^= rotated(column, value % z, z)
             needed = (own, *(other for other, _ in entries if other > 1))
-            if not rest or z < FEW_BITS or any(it.known[other] != it.whole for other in needed):
+            if bin(rest).count("1") < FEW_ONES or z < FEW_BITS or any(it.known[other] != it.whole for other in needed):
                 continue
             fitting = {(value, used) for column, value in inputs for used in range(z)
                        if rest == rotated(column, value % z, z) ^ rotated(column, used, z)}
+            tried += 1
             if len(fitting) == 1:
                 (value, used), = fitting
+                fitted += 1
                 found.setdefault((value, z, value % z), set()).add(used)
-    if found and all(len(used) == 1 for used in found.values()):
+    if SOME * fitted > tried and all(len(used) == 1 for used in found.values()):
         said = [f"V = {value}, Zc = {z}: P = {right}, used is {min(used)}" for (value, z, right), used in sorted(found.items())]
         yield "shifts that were used: " + "; ".join(said[:SHIFTS]) + ("; .." if len(said) > SHIFTS else "")
 

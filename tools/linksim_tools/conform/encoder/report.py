@@ -8,8 +8,7 @@ import typing
 from html import escape
 
 from linksim_tools.common.program import name_of
-from linksim_tools.conform import page
-from linksim_tools.conform import report as shared
+from linksim_tools.conform import page, report as shared
 from linksim_tools.conform.case import STEPS, Answer, Values, about, size
 from linksim_tools.conform.conditions import Common
 from linksim_tools.conform.encoder.difference import Difference, Spot

@@ -12,8 +12,7 @@ import typing
 
 from linksim_tools.common.message import shown
 from linksim_tools.common.program import Failed, name_of
-from linksim_tools.conform import bits as lists
-from linksim_tools.conform import code
+from linksim_tools.conform import bits as lists, code
 from linksim_tools.conform.answer_lines import Wrong, pairs_of
 from linksim_tools.conform.case import PLAN, Case, Plan, Tables, Values, scheduled
 from linksim_tools.conform.chain import Chain

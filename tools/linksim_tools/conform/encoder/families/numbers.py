@@ -209,15 +209,11 @@ SIZED: Formulas = {
 }
 
 
-def several(formula: Method) -> Methods:
-    """C by another formula if there are several code blocks."""
-    return instead("count", lambda b, most, l, there: formula(b, most, l) if there else 1)
-
-
-# Each number with its step, the right formula, the others, and how one is put in the place of the right one.
+# Each number with its step, the right formula, the others, and how one is put in its place. C is 1 by each if B <= Kcb.
 OTHERS: tuple[tuple[str, str, str, Formulas, typing.Callable[[Method], Methods]], ...] = (
     ("Nref", "buffer", "floor(3 TBS_LBRM / (2 C))", REFERENCES, functools.partial(instead, "reference")),
-    ("C", "segmentation", "ceil(B / (Kcb - 24))", COUNTS, several),
+    ("C", "segmentation", "ceil(B / (Kcb - 24))", COUNTS,
+     lambda formula: instead("count", lambda b, most, l, there: formula(b, most, l) if there else 1)),
     ("K'", "segmentation", "(B + C L) / C", PARTS, functools.partial(instead, "bits_of_code_block")),
     ("Zc", "segmentation", "the least Zc with Kb Zc >= K'", SIZED, functools.partial(instead, "lifting_size")),
     ("k0", "buffer", "floor(number Ncb / (columns Zc)) Zc", BEGINS, begun),
