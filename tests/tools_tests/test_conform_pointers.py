@@ -67,6 +67,9 @@ class Pointers(unittest.TestCase):
                 "set_index": lambda self, z: SIZES.index(z) % 8},
             "only column 23 of base graph 1 is wrong": {"sent_columns": lambda self, word, plan: Clauses.sent_columns(
                 self, word[: plan.k + plan.z] + "0" * plan.z + word[plan.k + 2 * plan.z :], plan)},
+            "of blocks with a single one at base graph 1 those fail that have it in column 3 or 4": {
+                "read": lambda self, rows, graph, index: [
+                    sorted(({3: 4, 4: 3}.get(it, it), values) for it, values in row) for row in rows]},
             "E adds up to less than is right": {"lengths": lambda self, case, c, chosen: [
                 max(it - 8, 0) if case.g % 3 == 0 else it for it in Clauses.lengths(self, case, c, chosen)]},
             "E has the right lengths, of which others are the longer ones": {

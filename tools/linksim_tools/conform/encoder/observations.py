@@ -12,6 +12,7 @@ from linksim_tools.conform.case import STEPS, Plan, Tables
 from linksim_tools.conform.clauses import Impossible
 from linksim_tools.conform.code import columns_of, rotated
 from linksim_tools.conform.encoder.judging import NOTHING, Made, Trial
+from linksim_tools.conform.encoder.points import Facts
 
 # How many code blocks are looked at, of how many bits, how many rows are named, and how many shifts.
 MOST, BITS, NAMED, SHIFTS = 160, 1 << 18, 8, 5
@@ -210,6 +211,16 @@ def of_shifts(seen: list[Seen], tables: Tables) -> typing.Iterator[str]:
         yield "shifts that were used: " + "; ".join(said[:SHIFTS]) + ("; .." if len(said) > SHIFTS else "")
 
 
+def of_single_ones(failing: list[Trial], passing: list[Trial]) -> typing.Iterator[str]:
+    """Words for the columns in which a block's single one makes it fail, if few do."""
+    for graph in GRAPHS:
+        bad, good = ({Facts(it.case).column for it in trials if it.right.plan.graph == graph} - {None}
+                     for trials in (failing, passing))
+        if 0 < len(bad) <= NAMED and len(good) > NAMED and not bad & good:
+            columns = " or ".join(map(str, sorted(it for it in bad if it is not None)))
+            yield f"of blocks with a single one at base graph {graph} those fail that have it in column {columns}"
+
+
 def lines(step: str, failing: list[Trial], passing: list[Trial]) -> list[str]:
     """What is told of rows and of bits of columns."""
     if not any("ldpc" in failing[0].span(field) for field in STEPS[step][1]):
@@ -221,5 +232,6 @@ def lines(step: str, failing: list[Trial], passing: list[Trial]) -> list[str]:
             if len(kept) < MOST and trial.right.plan.c * trial.right.plan.n < BITS:
                 kept += [it for it in seen_in(step, trial) if it.bad or trials is passing]
                 trial.forget()
-    told = [*of_rows([*bad, *good]), of_bits(bad), *of_columns(bad), *of_shifts(bad, failing[0].tables.tables)]
+    told = [*of_rows([*bad, *good]), of_bits(bad), *of_columns(bad), *of_shifts(bad, failing[0].tables.tables),
+            *of_single_ones(failing, passing)]
     return [words for words in told if words]
