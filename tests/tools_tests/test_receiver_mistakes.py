@@ -91,7 +91,7 @@ class HeldOut(unittest.TestCase):
                 if made.diagnosis and made.diagnosis.kind == "gives":
                     self.assertIn(said, text)
         self.assertGreaterEqual(len(found), 0.95 * len(HELD_OUT))
-        self.assertLessEqual({"p-of-8-bits", "addresses-of-14-bits"}, set(found))
+        self.assertLessEqual({"p-of-8-bits", "addresses-of-14-bits", "ncb-ignored-at-rv-0"}, set(found))
         self.assertIn("rv-of-1-bit", named)
         self.assertGreaterEqual(len(named), 0.55 * len(HELD_OUT), sorted(HELD_OUT.keys() - set(named)))
 

@@ -24,7 +24,7 @@ a8-rv1-limit47 even, a8-rv1-limit47 early, a8-rv1-limit47 parity, a8-other-qm la
 a8-rv0-limit55 even, a8-rv2-limit61 late, a8-rv3-limit73 extension, a8-long-short last, a24-rv0-limit55 even,
 a296-rv2-limit61 early, a296-other-qm early, a296-rv1-limit47 parity, a336-other-qm even, a336-rv3-twice second-copy,
 a288-rv0 parity, a296-1372-rv0 parity, a184-rv0 early, a176-rv0 early, a552-rv0 early, a1400-rv0 even, a3824-rv0 parity,
-a3816-rv0 early, a296-rv1 even, a24-qm6 even, a24-rv0-limit55-twice last, three-uneven early, two-uneven early,
+a3816-rv0 early, a296-rv1 even, a24-qm6 even, a24-rv0-limit55-twice second-copy, three-uneven early, two-uneven early,
 two-limit-twice even, two-nl3 early, three-nl3 even, three-nl4 early, four-then-013 early, four-nl3 even, three-one-over early,
 a296-rv1 late, a296-rv2 even, a296-rv3 early, a8-rv1 even, a8-rv3 even, a24-rv2 early, two-of-1-rv0 parity, three-then-12 even,
 three-limit-then-12 last, three-then-02 extension, two-other-qm even, two-no-filler even, two-rate-511 early
