@@ -35,18 +35,6 @@ class Pointers(unittest.TestCase):
         text = "\n".join(reporting.text(made))
         return text[text.find("diagnosis") :]
 
-    def test_a_sequence_is_added(self) -> None:
-        said = self.said(joined=lambda self, f: added(Clauses.joined(self, f)))
-        self.assertIn("the same sequence is added to the right bits in all", said)
-
-    def test_parity_bits_that_never_change(self) -> None:
-        said = self.said(crc=lambda self, name, bits: "0" + Clauses.crc(self, name, bits)[1:])
-        self.assertIn("parity bits of the CRC of 16 bits that never change: p_0 = 0", said)
-
-    def test_shifts_that_were_used(self) -> None:
-        said = self.said(shift=lambda self, value, z, largest: (value + (value % 7 == 3)) % z)
-        self.assertRegex(said, r"shifts that were used: V = \d+, Zc = \d+: P = \d+, used is \d+")
-
     def test_no_shifts_of_columns_in_reverse(self) -> None:
         """A column of a few ones in reverse looks as if it were rotated."""
         def sent_columns(self: Clauses, word: str, plan: Plan) -> str:
@@ -58,9 +46,25 @@ class Pointers(unittest.TestCase):
         self.assertNotIn("shifts that were used", said)
         self.assertIn("only rows from 10 on of base graph 1 are wrong", said)
 
-    def test_what_has_no_name_has_a_pointer(self) -> None:
-        """What differs is told where nothing gives it: which number, which column, which places, how many bits."""
+    def test_what_is_said(self) -> None:
+        """Which number, column or places differ, how many bits do, of what lengths are composed, and when it is so: a condition of
+        what the step consumes."""
         planted: dict[str, dict[str, typing.Callable[..., typing.Any]]] = {
+            "the same sequence is added to the right bits in all": {"joined": lambda self, f: added(Clauses.joined(self, f))},
+            "parity bits of the CRC of 16 bits that never change: p_0 = 0": {
+                "crc": lambda self, name, bits: "0" + Clauses.crc(self, name, bits)[1:]},
+            r"shifts that were used: V = \d+, Zc = \d+: P = \d+, used is \d+": {
+                "shift": lambda self, value, z, largest: (value + (value % 7 == 3)) % z},
+            "the unit is Qm, the longer ones come first": {"lengths": lambda self, case, c, chosen: [
+                shares(case, chosen, case.qm, len(chosen)).get(r, 0) for r in range(c)]},
+            "NL = 3 is taken as 2": {
+                "told": lambda self, case, before: dataclasses.replace(case, nl=2 if case.nl == 3 else case.nl)},
+            "exactly where NL = 4": {
+                "lengths": lambda self, case, *given: Clauses.lengths(self, case, *given)[:: -1 if case.nl == 4 else 1]},
+            "exactly where (base graph [12] and )?Zc = 384": {
+                "shift": lambda self, value, z, largest: (value + (z == 384 and value > 300)) % z},
+            "E of the code blocks stands in reverse": {
+                "lengths": lambda self, case, c, chosen: Clauses.lengths(self, case, c, chosen)[:: -1 if len(chosen) > 8 else 1]},
             "the parity bits of the CRC of 16 bits are rotated by 1 to the left": {
                 "crc": lambda self, name, bits: (Clauses.crc(self, name, bits) * 2)[1 : self.polynomial(name)[0] + 1]},
             "the set index is the first number of the plan that differs, in each case that fails": {
@@ -82,21 +86,7 @@ class Pointers(unittest.TestCase):
         }
         for wanted, methods in planted.items():
             with self.subTest(wanted):
-                self.assertIn(wanted, self.said(**methods))
-
-    def test_lengths_are_composed(self) -> None:
-        """Of another unit and another place of the longer ones, and of a value of NL that is taken for another one."""
-        said = self.said(lengths=lambda self, case, c, chosen: [
-            shares(case, chosen, case.qm, len(chosen)).get(r, 0) for r in range(c)])
-        self.assertIn("the unit is Qm, the longer ones come first", said)
-        said = self.said(told=lambda self, case, before: dataclasses.replace(case, nl=2 if case.nl == 3 else case.nl))
-        self.assertIn("NL = 3 is taken as 2", said)
-
-    def test_conditions_are_of_what_a_step_consumes(self) -> None:
-        said = self.said(lengths=lambda self, case, c, chosen: Clauses.lengths(self, case, c, chosen)[:: -1 if case.nl == 4 else 1])
-        self.assertIn("exactly where NL = 4", said)
-        said = self.said(shift=lambda self, value, z, largest: (value + (z == 384 and value > 300)) % z)
-        self.assertRegex(said, "exactly where (base graph [12] and )?Zc = 384")
+                self.assertRegex(self.said(**methods), wanted)
 
     def test_a_wrong_base_graph_accuses_no_later_step(self) -> None:
         """Where it leaves code blocks of no one length the clauses say nothing of them."""
@@ -114,11 +104,7 @@ class Pointers(unittest.TestCase):
         self.assertEqual([step for step, it in made.steps.items() if it.failing], ["ldpc"])
         self.assertEqual({it.step for it in made.diagnosis}, {"ldpc"})
 
-    def test_more_code_blocks_and_rounds(self) -> None:
-        """A count of more than eight code blocks, and more than three rounds of the buffer."""
-        said = self.said(lengths=lambda self, case, c, chosen: Clauses.lengths(self, case, c, chosen)[
-            :: -1 if len(chosen) > 8 else 1])
-        self.assertIn("E of the code blocks stands in reverse", said)
+    def test_more_than_three_rounds(self) -> None:
         found = self.said(selected=lambda self, d, first, length, count: (
             lambda e, most: e[:most] + "0" * (len(e) - len(e[:most])))(
                 Clauses.selected(self, d, first, length, count), 3 * len(self.ring(d, length).replace("-", ""))))
