@@ -2,7 +2,9 @@
 use Rattle.nr_harqbuf.proofs.Common.{nat_tests, ◌≡◌, ℕ, ◌+◌, ◌-◌, ◌^◌, ◌<◌, ◌≤◌, ◌==◌, ◌&&◌}
 use Rattle.nr_harqbuf.proofs.Common.{◌||◌, ◌⊎◌, inl, inr, Bool, true, false, not, List, ap, sym, ◌∙◌, arith, length}
 use Rattle.nr_harqbuf.proofs.Common.{bit_at, bit_not, w64, bit_and, bit_or, bit_xor, and_lt, xor_lt, cases_lt, and_parts, and_from}
-use Rattle.nr_harqbuf.proofs.Common.{eqb-true, eq-eqb, ◌⊕◌, bit, get_or_past}
+use Rattle.nr_harqbuf.proofs.Common.{eqb-true, eq-eqb, ◌⊕◌, bit, get_or_past, cond, Some, None, refl}
+use Rattle.nr_harqbuf.specs.inside.Words.{bit_in}
+use Rattle.std.specs.Option.{option_or}
 use Rattle.std.proofs.lemmas.Nat.Bits.{bit_at-lt, bit_at-zero, bit_at_and, bit_at_or, bit_at_xor, bit_at_not, same_from_bits_below}
 
 -- ---- bits of words, as truth values
@@ -40,28 +42,52 @@ word-zero n fits none = same_from_bits_below 64 n 0 fits (omega arith)
 pub zero-none : (n j : ℕ) → n ≡ 0 → on n j ≡ false
 zero-none n j e = ap (λ m. on m j) e ∙ ap (λ m. m == 1) (bit_at-zero j)
 
+same-sum : (a b : Bool) → (a ⊕ b) ≡ false → b ≡ a
+same-sum a b h = grind arith
+
+no-sum : (a b : Bool) → b ≡ a → (a ⊕ b) ≡ false
+no-sum a b h = grind arith
+
 -- ---- a position whose mark is h and whose bit is v, heard with mark n and bit b
 
 -- its bit after that: the first one stays
-abbrev pub merged_bit : Bool → Bool → Bool → Bool → Bool
-merged_bit h v n b = v ⊕ ((n && not h) && (v ⊕ b))
+first_bits : (h v n b : Bool) → cond (h || n) (Some (v ⊕ ((n && not h) && (v ⊕ b)))) None
+    ≡ option_or (cond h (Some v) None) (cond n (Some b) None)
+first_bits h v n b = grind arith
 
 -- it is heard again, with the other bit
-abbrev pub clashing : Bool → Bool → Bool → Bool → Bool
-clashing h v n b = (n && h) && (v ⊕ b)
+clash_bits : (h v n b : Bool) → ((n && h) && (v ⊕ b)) ≡ false → h ≡ true → n ≡ true → b ≡ v
+clash_bits h v n b quiet marked again = grind arith
+
+quiet_bits : (h v n b : Bool) → (h ≡ true → n ≡ true → b ≡ v) → ((n && h) && (v ⊕ b)) ≡ false
+quiet_bits h v false b same = refl
+quiet_bits false v true b same = refl
+quiet_bits true v true b same = no-sum v b (same refl refl)
 
 pub news-word : (before now j : ℕ) → before < 2 ^ 64 → j < 64
     → on (bit_and now (bit_not w64 before)) j ≡ (on now j && not (on before j))
 news-word before now j fits h = on-and now (bit_not w64 before) j ∙ ap (λ t. on now j && t) (on-not before j fits h)
 
-pub value-word : (before old now bits j : ℕ) → before < 2 ^ 64 → j < 64
-    → on (bit_xor old (bit_and (bit_and now (bit_not w64 before)) (bit_xor old bits))) j
-    ≡ merged_bit (on before j) (on old j) (on now j) (on bits j)
-value-word before old now bits j fits h = grind (arith, on-xor, on-and, news-word)
+pub first-word : (before old now bits j : ℕ) → before < 2 ^ 64 → j < 64
+    → bit_in (bit_or before now) (bit_xor old (bit_and (bit_and now (bit_not w64 before)) (bit_xor old bits))) j
+    ≡ option_or (bit_in before old j) (bit_in now bits j)
+first-word before old now bits j fits h = grind (arith, on-or, on-xor, on-and, news-word, first_bits)
 
-pub clash-word : (before old now bits j : ℕ)
-    → on (bit_and (bit_and now before) (bit_xor old bits)) j ≡ clashing (on before j) (on old j) (on now j) (on bits j)
+clash-word : (before old now bits j : ℕ)
+    → on (bit_and (bit_and now before) (bit_xor old bits)) j ≡ ((on now j && on before j) && (on old j ⊕ on bits j))
 clash-word before old now bits j = grind (arith, on-and, on-xor)
+
+pub zero-agrees : (before old now bits : ℕ) → bit_and (bit_and now before) (bit_xor old bits) ≡ 0
+    → (j : ℕ) → j < 64 → on before j ≡ true → on now j ≡ true → on bits j ≡ on old j
+zero-agrees before old now bits zero j lt marked again =
+    clash_bits (on before j) (on old j) (on now j) (on bits j)
+    (sym (clash-word before old now bits j) ∙ zero-none (bit_and (bit_and now before) (bit_xor old bits)) j zero) marked again
+
+pub agrees-zero : (before old now bits : ℕ) → bit_and (bit_and now before) (bit_xor old bits) < 2 ^ 64
+    → ((j : ℕ) → j < 64 → on before j ≡ true → on now j ≡ true → on bits j ≡ on old j)
+    → bit_and (bit_and now before) (bit_xor old bits) ≡ 0
+agrees-zero before old now bits fits same = word-zero (bit_and (bit_and now before) (bit_xor old bits)) fits
+    (λ j lt. clash-word before old now bits j ∙ quiet_bits (on before j) (on old j) (on now j) (on bits j) (same j lt))
 
 -- ---- lists of bits
 
@@ -79,12 +105,6 @@ put-in old new at count word p put from below = grind arith
 pub read-at : (xs : List Bool) (at word p : ℕ) → ((j : ℕ) → j < 64 → on word j ≡ bit xs (at + j)) → at ≤ p
     → p < at + 64 → on word (p - at) ≡ bit xs p
 read-at xs at word p reads from below = grind arith
-
-same-sum : (a b : Bool) → (a ⊕ b) ≡ false → b ≡ a
-same-sum a b h = grind arith
-
-no-sum : (a b : Bool) → b ≡ a → (a ⊕ b) ≡ false
-no-sum a b h = grind arith
 
 -- what the word of differences has at a position
 differs-at : (h v w j : ℕ) → on (bit_and h (bit_xor v w)) j ≡ (on h j && (on v j ⊕ on w j))

@@ -1,6 +1,6 @@
 -- What is heard of a code block, as marks: at which positions of its codeword something is heard, and the bits there.
 use Rattle.std.specs.Prelude.{◌≡◌, ℕ, ◌+◌, ◌-◌, ◌<◌, ◌==◌, ◌&&◌, ◌||◌, Bool, nat_le, nat_lt}
-use Rattle.std.specs.Prelude.{if◌then◌else◌, List, ◌++◌, length, map, Option, Some, All}
+use Rattle.std.specs.Prelude.{if◌then◌else◌, List, ◌++◌, length, map, Option, Some, None, All}
 use Rattle.std.specs.{Bool.beq, Int.bit_at, List.list_any, List.range_with_len}
 use Rattle.nr_bitvec.specs.{Bit.bit, Marks.Marks, Marks.marked_bit}
 use Rattle.nr_harqbuf.specs.Record.{HeardBits, Hearing, heard_as, first_at, is_heard, differs, record_of}
@@ -13,6 +13,11 @@ says m p b = bit m.at p && beq (bit m.bits p) b
 abbrev pub word_says : ℕ → ℕ → ℕ → ℕ → ℕ → Bool → Bool
 word_says at count now bits p b =
     nat_le at p && nat_lt p (at + count) && (bit_at now (p - at) == 1) && beq (bit_at bits (p - at) == 1) b
+
+-- the bit that two such words have for a position, if they mark it
+abbrev pub word_bit : ℕ → ℕ → ℕ → ℕ → ℕ → Option Bool
+word_bit at count now bits p =
+    if nat_le at p && nat_lt p (at + count) && (bit_at now (p - at) == 1) then Some (bit_at bits (p - at) == 1) else None
 
 -- the marks say what was heard, so no position was heard with both bits
 abbrev pub AreMarks : List Hearing → Marks → Type 0

@@ -1,13 +1,49 @@
 //! Received bits, 64 codeword indexes at a time. One list of bits marks the indexes that were received, another one holds the
 //! bits received there.
 
-ghost use Rattle.std.specs.Prelude.{◌≡◌, ℕ, ◌+◌, ◌≤◌, ◌||◌, ◌↔◌, Bool, not, true, false, length};
-ghost use Rattle.std.specs.Prelude.{IsTrue};
-ghost use Rattle.nr_bitvec.specs.{Bit.bit, Marks.marks_with};
-ghost use Rattle.nr_harqbuf.specs.Marks.{says, word_says};
+ghost use Rattle.std.specs.Prelude.{◌≡◌, ℕ, ◌+◌, ◌<◌, ◌≤◌, ◌==◌, ◌&&◌, ◌||◌, ◌↔◌, not};
+ghost use Rattle.std.specs.Prelude.{Bool, true, false, length, IsTrue};
+ghost use Rattle.std.specs.{Int.bit_at, Option.option_or};
+ghost use Rattle.nr_bitvec.specs.{Bit.bit, Marks.marked_bit, Marks.marks_with};
+ghost use Rattle.nr_harqbuf.specs.Marks.{says, word_bit, word_says};
+ghost use Rattle.nr_harqbuf.specs.inside.Words.{bit_in};
 
 use nr_bitvec::words::low_bits;
 use nr_bitvec::{Bits, Marks};
+
+// What was received of 64 codeword indexes, after more of them was received.
+#[derive(Clone, Copy)]
+pub(crate) struct MergedWord {
+    // Which indexes were received.
+    pub(crate) heard: u64,
+    // The bits received there first.
+    pub(crate) value: u64,
+    // Which of them were not received before.
+    pub(crate) news: u64,
+    // Whether none was received again with the other bit.
+    pub(crate) agreed: bool,
+}
+
+impl MergedWord {
+    // Merges the bits `bits` of the indexes marked in `now` into the bits `value` of those marked in `heard`. The first bit
+    // received at an index is kept.
+    pub(crate) fn of(heard: u64, value: u64, now: u64, bits: u64) -> MergedWord
+        ensures first { (j : ℕ) → j < 64 → bit_in result.heard result.value j
+            ≡ option_or (bit_in heard value j) (bit_in now bits j) }
+        ensures news { (j : ℕ) → j < 64 → (bit_at result.news j == 1)
+            ≡ ((bit_at now j == 1) && not (bit_at heard j == 1)) }
+        ensures agreed { IsTrue result.agreed ↔ ((j : ℕ) → j < 64 → (bit_at heard j == 1) ≡ true
+            → (bit_at now j == 1) ≡ true → (bit_at bits j == 1) ≡ (bit_at value j == 1)) }
+    {
+        let news = now & !heard;
+        MergedWord {
+            heard: heard | now,
+            value: value ^ (news & (value ^ bits)),
+            news,
+            agreed: now & heard & (value ^ bits) == 0,
+        }
+    }
+}
 
 /// Merges up to 64 received bits into the lists. Bit i of `now`, for i below `count`, marks codeword index `at` + i as
 /// received, with bit i of `bits`. An index that was marked before keeps its bit. Returns true if no such index is received
@@ -23,6 +59,8 @@ pub fn merge_word(
     requires count { count ≤ 64 }
     requires inside { at + count ≤ length heard.old.items }
     requires both { length value.old.items ≡ length heard.old.items }
+    ensures first { (p : ℕ) → marked_bit (marks_with heard.new.items value.new.items) p
+        ≡ option_or (marked_bit (marks_with heard.old.items value.old.items) p) (word_bit at count now bits p) }
     ensures says { IsTrue result → (p : ℕ) (b : Bool) → says (marks_with heard.new.items value.new.items) p b
         ≡ (says (marks_with heard.old.items value.old.items) p b || word_says at count now bits p b) }
     ensures agree { IsTrue result ↔ ((p : ℕ) (b : Bool) → word_says at count now bits p b ≡ true
@@ -36,11 +74,10 @@ pub fn merge_word(
 {
     let before = heard.window(at);
     let old = value.window(at);
-    let now = low_bits(now, count);
-    let news = now & !before;
-    heard.put(at, count, before | now);
-    value.put(at, count, old ^ (news & (old ^ bits)));
-    now & before & (old ^ bits) == 0
+    let word = MergedWord::of(before, old, low_bits(now, count), bits);
+    heard.put(at, count, word.heard);
+    value.put(at, count, word.value);
+    word.agreed
 }
 
 /// Tells whether `word` has the received bit at every marked index. Allocates nothing.

@@ -6,7 +6,7 @@ ghost use Rattle.nr_segment.specs.CodeBlock.{positions_of};
 ghost use Rattle.nr_harqbuf.specs.Marks.{IsKeptBy, merge_of, record_by};
 ghost use Rattle.nr_harqbuf.specs.Record.{HasFirsts, first_at, is_heard, record_of, with_hearing};
 
-use crate::marks::agrees;
+use crate::marks::{MergedWord, agrees};
 use nr_bitvec::{Bits, Marks};
 use nr_segment::Plan;
 use std::alloc::{AllocError, Global};
@@ -124,11 +124,11 @@ impl Store {
                 let before = self.marks.heard.window(at);
                 let bits = marks.value.window(at);
                 let old = self.marks.value.window(at);
-                let news = now & !before;
-                self.clash |= now & before & (old ^ bits) != 0;
-                self.marks.heard.put(at, count, before | now);
-                self.marks.value.put(at, count, old ^ (news & (old ^ bits)));
-                marks.heard.put(at, count, news);
+                let word = MergedWord::of(before, old, now, bits);
+                self.clash |= !word.agreed;
+                self.marks.heard.put(at, count, word.heard);
+                self.marks.value.put(at, count, word.value);
+                marks.heard.put(at, count, word.news);
             }
         }
     }

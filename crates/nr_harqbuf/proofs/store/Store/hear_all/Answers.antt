@@ -1,6 +1,6 @@
 use Rattle.nr_harqbuf.proofs.Common.{◌≡◌, ◌+◌, ◌*◌, min, length, ap, refl, ◌∙◌, arith, HeardBits}
 use Rattle.nr_harqbuf.proofs.KeptBitFacts.{length-kept}
-use Rattle.nr_harqbuf.proofs.MergedListFacts.{merged-idle, merged-none, merged-step, merged-done, news-done}
+use Rattle.nr_harqbuf.proofs.MergedListFacts.{merged-done, merged-idle, merged-more, merged-none, merged-step, news-done}
 use Rattle.nr_harqbuf.proofs.store.Store.hear_all.Goals.{then-now-ne0, else-now-ne0}
 use Rattle.nr_harqbuf.proofs.store.Store.hear_all.Goals as goal
 
@@ -19,30 +19,31 @@ put-requires-then-now-ne0-2-clause-inside c = grind (arith, length-kept)
 -- Two ways lead to the next word: some of its positions are heard again, or no position of it is marked.
 pub loop-i-preserved : goal.loop-i-preserved
 loop-i-preserved c =
-    let here : min (64 * c.loop-i.i) (length c.args.marks.now.heard.items) ≡ 64 * c.loop-i.i =
+    let at = 64 * c.loop-i.i in
+    let marks = c.args.marks.now in
+    let here : min at (length marks.heard.items) ≡ at =
     omega (arith, c.loop-i-test.true, c.div_ceil-i-end.ensures, c.len.ensures.value) in
+    let so_far = rw here at c.loop-i.invariant.merged in
     elim c.if-now-ne0.branch [
       | then-now-ne0 w ↦
-          let next : min (64 * (c.loop-i.i + 1)) (length c.args.marks.now.heard.items) ≡ 64 * c.loop-i.i + w.min-count.result =
+          let count = w.min-count.result in
+          let next : min (64 * (c.loop-i.i + 1)) (length marks.heard.items) ≡ at + count =
           omega (arith, here, c.loop-i.invariant.merged.marks_long, w.len-then-now-ne0.ensures.value, w.min-count.ensures) in
           rw (next, w.marks-is, w.self-inside-is) (record {
-            merged = merged-step (64 * c.loop-i.i) w.min-count.result w.window-before.result w.window-old.result c.window-now.result
-                w.window-bits.result _ _ c.args.marks.now.value.items _ (rw here at c.loop-i.invariant.merged) (record {
+            merged = merged-more at (at + count) _ _ marks.value.items _ (omega arith) so_far
+                (merged-step at count w.window-before.result w.window-old.result c.window-now.result w.window-bits.result
+                w.of-word.result.heard w.of-word.result.value w.of-word.result.news w.of-word.result.agreed
+                _ marks.value.items _ (record {
                   few = omega (arith, w.min-count.ensures);
                   whole = λ j lt past. omega (arith, lt, past, w.min-count.ensures, w.len-then-now-ne0.ensures.value);
-                  before_fits = w.window-before.type_inv;
-                  old_fits = w.window-old.type_inv;
-                  now_fits = c.window-now.type_inv;
-                  bits_fits = w.window-bits.type_inv;
                   reads_before = w.window-before.ensures;
                   reads_old = w.window-old.ensures;
                   reads_now = c.window-now.ensures;
                   reads_bits = rw c.loop-i.invariant.bits at w.window-bits.ensures;
-                  put_heard = record {
-                    within = w.put.ensures.within;
-                    before = w.put.ensures.before;
-                    after = w.put.ensures.after;
-                  };
+                  first = w.of-word.ensures.first;
+                  fresh = w.of-word.ensures.news;
+                  same = w.of-word.ensures.agreed;
+                  put_heard = record { within = w.put.ensures.within; before = w.put.ensures.before; after = w.put.ensures.after };
                   put_value = record {
                     within = w.put-then-now-ne0.ensures.within;
                     before = w.put-then-now-ne0.ensures.before;
@@ -55,18 +56,16 @@ loop-i-preserved c =
                   };
                   clash = refl;
                   heard_long = w.put.ensures.long;
-                  value_long = w.put-then-now-ne0.ensures.long;
                   marks_long = w.put-then-now-ne0-2.ensures.long;
-                });
+                }));
             bits = c.loop-i.invariant.bits;
             room = w.put-then-now-ne0-2.ensures.room ∙ c.loop-i.invariant.room;
           })
       | else-now-ne0 w ↦
+          let next = min (64 * (c.loop-i.i + 1)) (length marks.heard.items) in
           rw (w.marks-is, w.self-inside-is) (record {
-            merged = merged-idle (64 * c.loop-i.i) (min (64 * (c.loop-i.i + 1)) (length c.args.marks.now.heard.items))
-                c.window-now.result _ _
-                c.args.marks.now.value.items
-                (omega (arith, here)) (omega arith) w.if-now-ne0.false c.window-now.ensures (rw here at c.loop-i.invariant.merged);
+            merged = merged-more at next _ _ marks.value.items _ (omega (arith, here)) so_far
+                (merged-idle at next c.window-now.result _ marks.value.items (omega arith) w.if-now-ne0.false c.window-now.ensures);
             bits = c.loop-i.invariant.bits;
             room = c.loop-i.invariant.room;
           })

@@ -5,7 +5,7 @@ use Rattle.nr_harqbuf.proofs.store.Store.hear_all.Given as goal
 abbrev pub invariant-loop-i : goal.invariant-loop-i
 invariant-loop-i l = record {
   merged :
-      IsMerged (min (64 * l.i) (length l.initial.marks.heard.items))
+      IsMerged 0 (min (64 * l.i) (length l.initial.marks.heard.items))
       (record {
         heard = l.initial.self-inside.marks.heard.items;
         value = l.initial.self-inside.marks.value.items;
