@@ -175,6 +175,10 @@ class HeldOut(unittest.TestCase):
             self.assertRegex(read[0], "^read from soft in ")
             self.assertIn(said, "\n".join(read))
 
+    def test_a_buffer_that_would_be_larger_than_the_codeword(self) -> None:
+        """It is not read, though the values would stand so in it."""
+        self.assertEqual(reading.numbers_of("+000000+00", "+00000+0000000000+", range(0), True), {})
+
     def test_a_single_code_block(self) -> None:
         """If it fails, `0` may mean the CRC of the block, which is right: what differs is told of the transmission after it."""
         made = reported({"weak-before-24": [Answer(None, "0")] * 2})

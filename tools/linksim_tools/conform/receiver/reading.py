@@ -55,7 +55,7 @@ def numbers_of(d: str, e: str, fillers: range, is_limited: bool) -> dict[str, in
         if k0 < 0 and count == len(e) and not is_limited:
             # They all come after the end of the whole codeword.
             k0, size = k0 + len(ring), len(ring)
-        if k0 >= 0 and all(ring[(k0 + at) % size] == e[at] for at in there):
+        if k0 >= 0 and (size <= len(ring) or count == len(e)) and all(ring[(k0 + at) % size] == e[at] for at in there):
             if len({(k0 + at) % size for at in there}) == len(ring) - ring.count("0"):
                 found.append({"k0": k0} if count == len(e) else {"Ncb": size, "k0": k0})
     return {name: it + (it > fillers.start) * len(fillers) for name, it in found[0].items()
