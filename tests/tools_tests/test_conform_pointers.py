@@ -71,14 +71,14 @@ class Pointers(unittest.TestCase):
                 "set_index": lambda self, z: SIZES.index(z) % 8},
             "only column 23 of base graph 1 is wrong": {"sent_columns": lambda self, word, plan: Clauses.sent_columns(
                 self, word[: plan.k + plan.z] + "0" * plan.z + word[plan.k + 2 * plan.z :], plan)},
-            "of blocks with a single one at base graph 1 those fail that have it in column 3 or 4": {
+            "blocks with a single 1 at base graph 1 fail if it is in column 3 or 4": {
                 "read": lambda self, rows, graph, index: [
                     sorted(({3: 4, 4: 3}.get(it, it), values) for it, values in row) for row in rows]},
             "E adds up to less than is right": {"lengths": lambda self, case, c, chosen: [
                 max(it - 8, 0) if case.g % 3 == 0 else it for it in Clauses.lengths(self, case, c, chosen)]},
             "E has the right lengths, of which others are the longer ones": {
                 "is_longer": lambda self, j, r, counted, longer: longer > 0 and r % 3 == 0},
-            "bits, not always as many, are missing": {
+            "varying numbers of bits are missing": {
                 "selected": lambda self, d, first, *given: Clauses.selected(self, d, first + given[1] % 7, *given)},
             "only bits at places that are 0 modulo 64 differ": {"joined": lambda self, f: "".join(
                 "1" + word[1:] for word in words_of(Clauses.joined(self, f), 64))},

@@ -196,7 +196,7 @@ def in_words(shifts: list[displacement.Shift], count: int) -> list[str]:
     width = functools.reduce(math.gcd, by, 0)
     if 100 * len(by) < MOST * count or min(by) < 0 < max(by):
         return []
-    said = "bits, not always as many, are" if width < LEAST_WORD or width & (width - 1) else f"a multiple of {width} bits is"
+    said = "varying numbers of bits are" if width < LEAST_WORD or width & (width - 1) else f"a multiple of {width} bits is"
     return [f"{said} {'missing' if by[0] > 0 else 'too many'} (in {len(by)} of {count} that fail)"]
 
 

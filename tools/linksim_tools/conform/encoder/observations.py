@@ -218,7 +218,7 @@ def of_single_ones(failing: list[Trial], passing: list[Trial]) -> typing.Iterato
                      for trials in (failing, passing))
         if 0 < len(bad) <= NAMED and len(good) > NAMED and not bad & good:
             columns = " or ".join(map(str, sorted(it for it in bad if it is not None)))
-            yield f"of blocks with a single one at base graph {graph} those fail that have it in column {columns}"
+            yield f"blocks with a single 1 at base graph {graph} fail if it is in column {columns}"
 
 
 def lines(step: str, failing: list[Trial], passing: list[Trial]) -> list[str]:

@@ -128,7 +128,7 @@ class Depth(Verdict):
     def of(cls, seen: Seen) -> Verdict | None:
         lost = doubts.of_depth(seen.of, seen.failing)
         return cls(f"{lost}: too few iterations, or messages that die out since they are scaled and rounded down; "
-                       "round to the nearest, or try a larger --level") if lost else None
+                   "round to the nearest, or try a larger --level") if lost else None
 
 
 class Kinds(Verdict):
@@ -182,8 +182,8 @@ class Few(Verdict):
             return None
         lose = [f"{' and '.join(seen.losing[:NAMED])} would lose the same blocks:"] if seen.losing else []
         return cls(f"it delivers next to nothing: {delivered} of {len(due)} blocks that are due", seen.losing,
-                       notes=[*seen.lines, *lose],
-                       next="look at one small case: the sign of its values (--positive), the shift table that it reads, its CRC")
+                   notes=[*seen.lines, *lose],
+                   next="look at one small case: the sign of its values (--positive), the shift table that it reads, its CRC")
 
 
 class Loses(Verdict):
@@ -197,7 +197,7 @@ class Loses(Verdict):
         but = f" but {seen.against[0]}" if seen.against else ""
         notes = ["nothing else that was answered shows this mistake for sure", *seen.lines, *seen.clash_note]
         return cls(f"it loses the same blocks as a receiver with {names[0]} does, in all cases{but}", names, seen.against, notes,
-                       apart=seen.of.apart(names))
+                   apart=seen.of.apart(names))
 
 
 class Described(Verdict):
