@@ -1,5 +1,5 @@
 -- Places with eight to an octet, as the octets that nr_receive takes.
-use Rattle.nr_calls.proofs.Common.{inl, inr, ◌≡◌, ◌≢◌, ℕ, ◌+◌, ◌*◌, ◌/◌, ◌<◌, ◌≤◌, Bool, true}
+use Rattle.nr_calls.proofs.Common.{inl, inr, ◌≡◌, ◌≢◌, ℕ, ◌+◌, ◌*◌, ◌<◌, ◌≤◌, Bool, true}
 use Rattle.nr_calls.proofs.Common.{false, if◌then◌else◌, ◌&&◌}
 use Rattle.nr_calls.proofs.Common.{List, [], ◌∷◌, ◌++◌, length, map, take, drop, refl, sym, ap, ◌∙◌, arith}
 use Rattle.nr_calls.proofs.Common.{cases_lt, nat_le}

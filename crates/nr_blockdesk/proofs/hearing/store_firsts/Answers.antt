@@ -12,7 +12,6 @@ use Rattle.nr_blockdesk.proofs.MergingFacts.{fewer-merged, marks}
 use Rattle.nr_blockdesk.proofs.SettlingFacts.{first-told, marked-told, marks-told, settled-start, twice-recorded}
 use Rattle.nr_bitvec.specs.Marks.{marked_bit}
 use Rattle.nr_harqbuf.specs.Marks.{merge_of}
-use Rattle.nr_blockdesk.proofs.hearing.store_firsts.Goals.{After-hear-in-Some}
 use Rattle.nr_blockdesk.proofs.hearing.store_firsts.Goals as goal
 
 -- the two lists have what all places tell

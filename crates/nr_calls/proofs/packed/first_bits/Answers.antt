@@ -1,4 +1,4 @@
-use Rattle.nr_calls.proofs.Common.{◌+◌, ◌≤◌, length, ap, arith}
+use Rattle.nr_calls.proofs.Common.{length, ap, arith}
 use Rattle.nr_bitvec.proofs.OctetListFacts.{length-bits_of}
 use Rattle.nr_calls.proofs.packed.first_bits.Goals as goal
 

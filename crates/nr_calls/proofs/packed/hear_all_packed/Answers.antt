@@ -1,6 +1,6 @@
-use Rattle.nr_calls.proofs.Common.{◌≡◌, ◌≤◌, ◌<◌, ℕ, List, arith, drop, inr, length, rules, take, Err, sym, ap}
+use Rattle.nr_calls.proofs.Common.{◌≡◌, ◌≤◌, arith, inr, length, rules, Err, sym, ap}
 use Rattle.nr_calls.proofs.Common.{◌∙◌, subst}
-use Rattle.nr_calls.proofs.Common.{err_from_is_err_and, length-map-range_with_len, IsLink, Link, NrTx}
+use Rattle.nr_calls.proofs.Common.{err_from_is_err_and, length-map-range_with_len, IsLink, Link}
 use Rattle.nr_calls.proofs.ReceptionListFacts.{heard-all, heard-block, heard-err, heard-many, heard-more, heard-over, heard-short}
 use Rattle.nr_calls.proofs.PackedFacts.{arrives, behind, next-long, next-short, nothing-over, over}
 use Rattle.nr_calls.specs.Packed.{octet_count, unpacked}

@@ -1,4 +1,4 @@
-use Rattle.nr_calls.proofs.Common.{◌≤◌, ◌*◌, ◌∙◌, length, ap, sym, arith}
+use Rattle.nr_calls.proofs.Common.{◌∙◌, length, ap, sym, arith}
 use Rattle.nr_calls.proofs.PackedFacts.{first-long, packed-heard}
 use Rattle.nr_calls.proofs.packed.packed_marks.Goals as goal
 

@@ -1,4 +1,4 @@
-use Rattle.nr_calls.proofs.Common.{◌≡◌, ◌+◌, ◌*◌, ◌/◌, ◌<◌, ◌∙◌, ℕ, ap, sym, arith, cases_lt, get_or}
+use Rattle.nr_calls.proofs.Common.{◌≡◌, ◌+◌, ◌*◌, ◌/◌, ◌∙◌, ℕ, ap, sym, arith, cases_lt, get_or}
 use Rattle.nr_calls.proofs.Common.{inl, inr, length}
 use Rattle.std.proofs.{Common.◌%◌, Math.Nat.mod-add-div}
 use Rattle.nr_ratematch.specs.Selection.{place_of}
