@@ -144,14 +144,28 @@ def within(text: str, form: str, made: str) -> str:
     return text[: found.start()] + made + text[found.end() :]
 
 
+def version() -> str:
+    return (ROOT / "VERSION").read_text().strip()
+
+
 def versioned(form: str) -> typing.Callable[[str], str]:
-    """A file whose lines of this form, with a version after it, have that of the file VERSION."""
-    number = (ROOT / "VERSION").read_text().strip()
-    return lambda text: re.sub(rf'(?m)^({form} ?)".*?"', rf'\g<1>"{number}"', text)
+    """A file where the version behind this form is that of the file VERSION."""
+    return lambda text: re.sub(rf'(?m)^({form} "?)\d+\.\d+\.\d+(?:-dev)?', rf"\g<1>{version()}", text)
+
+
+def with_numbers(text: str) -> str:
+    """The header, with the three numbers of the version."""
+    numbers = iter(version().partition("-")[0].split("."))
+    return re.sub(r"(?m)^(#define NR_VERSION_(?:MAJOR|MINOR|PATCH) )\d+$", lambda found: found[1] + next(numbers), text)
+
+
+def released(text: str) -> str:
+    """A page whose names of packages have the number of the release that VERSION is, or that it is on the way to."""
+    return re.sub(r"(?<=[-_])\d+\.\d+\.\d+(?=[-_])", version().partition("-")[0], text)
 
 
 TEXTS: dict[str, typing.Callable[[str], str]] = {
-    "c/nr.h": lambda text: versioned("#define NR_VERSION")(header(text)),
+    "c/nr.h": lambda text: with_numbers(versioned("#define NR_VERSION")(header(text))),
     "c/nr_short_names.h": for_short_names,
     "c/octave/nr_sentences.h": for_c,
     "c/nr/_faults.py": for_python,
@@ -159,6 +173,8 @@ TEXTS: dict[str, typing.Callable[[str], str]] = {
     "crates/nr_job/src/command_line/texts.rt": for_help,
     "crates/nr_job/src/command_line/apps.rt": versioned("const VERSION: &str ="),
     "c/rust/Cargo.toml": versioned("version ="),
+    "CITATION.cff": versioned("version:"),
+    "docs/install.md": released,
     "docs/formats.md": for_page,
     "docs/architecture.md": for_map,
     **generated_bindings.TEXTS,
