@@ -45,6 +45,22 @@ impl MergedWord {
     }
 }
 
+// Puts the `count` lowest bits of `word` in the place of those of `now` from bit `at` on. Mostly they are the same.
+pub(crate) fn put_changed(bits: &mut Bits, at: usize, count: usize, now: u64, word: u64)
+    requires count { count ≤ 64 }
+    requires inside { at + count ≤ length bits.old.items }
+    requires now { (j : ℕ) → j < 64 → (bit_at now j == 1) ≡ bit bits.old.items (at + j) }
+    ensures within { (t : ℕ) → t < count → bit bits.new.items (at + t) ≡ (bit_at word t == 1) }
+    ensures before { (t : ℕ) → t < at → bit bits.new.items t ≡ bit bits.old.items t }
+    ensures after { (t : ℕ) → at + count ≤ t → bit bits.new.items t ≡ bit bits.old.items t }
+    ensures long { length bits.new.items ≡ length bits.old.items }
+    ensures room { bits.new.room ≡ bits.old.room }
+{
+    if word != now {
+        bits.put(at, count, word);
+    }
+}
+
 /// Merges up to 64 received bits into the lists. Bit i of `now`, for i below `count`, marks codeword index `at` + i as
 /// received, with bit i of `bits`. An index that was marked before keeps its bit. Returns true if no such index is received
 /// again with the other bit; the lists then hold exactly what they held before together with the new bits. Allocates nothing.

@@ -6,7 +6,7 @@ ghost use Rattle.nr_segment.specs.CodeBlock.{positions_of};
 ghost use Rattle.nr_harqbuf.specs.Marks.{IsKeptBy, merge_of, record_by};
 ghost use Rattle.nr_harqbuf.specs.Record.{HasFirsts, first_at, is_heard, record_of, with_hearing};
 
-use crate::marks::{MergedWord, agrees};
+use crate::marks::{MergedWord, agrees, put_changed};
 use nr_bitvec::{Bits, Marks};
 use nr_segment::Plan;
 use std::alloc::{AllocError, Global};
@@ -128,7 +128,7 @@ impl Store {
                 self.clash |= !word.agreed;
                 self.marks.heard.put(at, count, word.heard);
                 self.marks.value.put(at, count, word.value);
-                marks.heard.put(at, count, word.news);
+                put_changed(&mut marks.heard, at, count, now, word.news);
             }
         }
     }

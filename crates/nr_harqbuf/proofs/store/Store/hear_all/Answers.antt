@@ -13,8 +13,8 @@ put-requires-clause-inside c = grind (arith, length-kept)
 pub put-requires-then-now-ne0-clause-inside : goal.put-requires-then-now-ne0-clause-inside
 put-requires-then-now-ne0-clause-inside c = grind (arith, length-kept)
 
-pub put-requires-then-now-ne0-2-clause-inside : goal.put-requires-then-now-ne0-2-clause-inside
-put-requires-then-now-ne0-2-clause-inside c = grind (arith, length-kept)
+pub put_changed-requires-clause-inside : goal.put_changed-requires-clause-inside
+put_changed-requires-clause-inside c = grind (arith, length-kept)
 
 -- Two ways lead to the next word: some of its positions are heard again, or no position of it is marked.
 pub loop-i-preserved : goal.loop-i-preserved
@@ -50,16 +50,16 @@ loop-i-preserved c =
                     after = w.put-then-now-ne0.ensures.after;
                   };
                   put_marks = record {
-                    within = w.put-then-now-ne0-2.ensures.within;
-                    before = w.put-then-now-ne0-2.ensures.before;
-                    after = w.put-then-now-ne0-2.ensures.after;
+                    within = w.put_changed.ensures.within;
+                    before = w.put_changed.ensures.before;
+                    after = w.put_changed.ensures.after;
                   };
                   clash = refl;
                   heard_long = w.put.ensures.long;
-                  marks_long = w.put-then-now-ne0-2.ensures.long;
+                  marks_long = w.put_changed.ensures.long;
                 }));
             bits = c.loop-i.invariant.bits;
-            room = w.put-then-now-ne0-2.ensures.room ∙ c.loop-i.invariant.room;
+            room = w.put_changed.ensures.room ∙ c.loop-i.invariant.room;
           })
       | else-now-ne0 w ↦
           let next = min (64 * (c.loop-i.i + 1)) (length marks.heard.items) in
