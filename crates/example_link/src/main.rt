@@ -7,7 +7,7 @@ use nr_bitvec::Bits;
 use nr_blockdesk::{DeskFault, Heard, Outcome, Sender, Settings, Tx};
 use nr_ratematch::Mask;
 use nr_shifttable::{Feed, Table, TableFault};
-use nr_theorem::{Arrival, carry};
+use nr_theorem::{Arrival, Carried, carry};
 use std::alloc::{AllocError, Global};
 use std::io::Read;
 use std::{fmt, io};
@@ -53,6 +53,18 @@ const LINK: [(u32, &str); 5] = [
     (0, "---------------------------x"),
 ];
 
+/// Reads a shift table from a reader, to its end.
+fn read_table<R: Read>(alloc: Global, reader: &mut R) -> Result<Table, Fault> {
+    let mut text = Vec::new(alloc);
+    reader.read_to_end(&mut text)?;
+    Ok(Table::read(alloc, &mut Feed::new(text, 4096, 0))?)
+}
+
+/// The bits that are sent of the transport block: the same in each transmission that is not rejected.
+fn bits_sent(alloc: Global, table: &Table, block: &Bits) -> Result<Bits, DeskFault> {
+    Sender::new(alloc, table, SETTINGS, block)?.send(&first_bits(0))
+}
+
 /// What arrives of the bits sent.
 fn arrived(alloc: Global, sent: &Bits, link: &str) -> Result<Vec<Heard>, AllocError> {
     let mut heard = Vec::new(alloc);
@@ -67,13 +79,19 @@ fn arrived(alloc: Global, sent: &Bits, link: &str) -> Result<Vec<Heard>, AllocEr
     Ok(heard)
 }
 
-/// An outcome, as it is printed: a transport block by its octets in hexadecimal.
+/// What is printed after a transmission: its fault, if it was rejected, and the outcome, with the octets of a transport block in
+/// hexadecimal.
 #[derive(Drop)]
-struct OutcomeText<'a>(&'a Outcome);
+struct Line<'a>(&'a Carried);
 
-impl fmt::Display for OutcomeText<'_> {
+impl fmt::Display for Line<'_> {
     fn fmt<W: fmt::Write>(&self, f: &mut fmt::Formatter<W>) -> fmt::Result {
-        match self.0 {
+        let Line(carried) = self;
+        match carried.answers.last() {
+            Some(Err(fault)) => write!(f, "rejected ({fault}): ")?,
+            _ => write!(f, "sent: ")?,
+        }
+        match &carried.outcome {
             Outcome::Delivered(block) => {
                 write!(f, "delivered ")?;
                 for octet in 0..block.len() / 8 {
@@ -87,25 +105,30 @@ impl fmt::Display for OutcomeText<'_> {
     }
 }
 
-fn main(rt: HostRuntime) -> Result<(), Fault> {
-    let alloc = rt.alloc();
-    let mut text = Vec::new(alloc);
-    rt.reader().read_to_end(&mut text)?;
-    let table = Table::read(alloc, &mut Feed::new(text, 4096, 0))?;
-    let block = Bits::from_bytes(alloc, &[0x01])?;
-    let sent = Sender::new(alloc, &table, SETTINGS, &block)?.send(&first_bits(0))?;
+/// After each transmission of the link, prints what the receiver delivers of all that has arrived.
+fn print_outcomes(
+    rt: &impl Print,
+    alloc: Global,
+    table: &Table,
+    block: &Bits,
+    sent: &Bits,
+) -> Result<(), Fault> {
     let mut arrivals = Vec::new(alloc);
     for (rv, link) in &LINK {
-        let heard = arrived(alloc, &sent, link)?;
+        let heard = arrived(alloc, sent, link)?;
         let tx = first_bits(*rv);
         let pushed = arrivals.push(Arrival { tx, heard });
         pushed.map_err(|_| AllocError)?;
-        let carried = carry(alloc, &table, SETTINGS, &block, &arrivals)?;
-        let outcome = OutcomeText(&carried.outcome);
-        match carried.answers.last() {
-            Some(Err(fault)) => println!(rt; "rejected ({fault}): {outcome}")?,
-            _ => println!(rt; "sent: {outcome}")?,
-        }
+        let carried = carry(alloc, table, SETTINGS, block, &arrivals)?;
+        println!(rt; "{}", Line(&carried))?;
     }
     Ok(())
+}
+
+fn main(rt: HostRuntime) -> Result<(), Fault> {
+    let alloc = rt.alloc();
+    let table = read_table(alloc, &mut rt.reader())?;
+    let block = Bits::from_bytes(alloc, &[0x01])?;
+    let sent = bits_sent(alloc, &table, &block)?;
+    print_outcomes(&rt, alloc, &table, &block, &sent)
 }
