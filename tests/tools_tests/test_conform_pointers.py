@@ -82,6 +82,8 @@ class Pointers(unittest.TestCase):
                 "selected": lambda self, d, first, *given: Clauses.selected(self, d, first + given[1] % 7, *given)},
             "only bits at places that are 0 modulo 64 differ": {"joined": lambda self, f: "".join(
                 "1" + word[1:] for word in words_of(Clauses.joined(self, f), 64))},
+            "the wrong parity bits are those of the information bits in reverse": {
+                "filled": lambda self, bits, fill: Clauses.filled(self, bits[::-1] if "0" in fill else bits, fill)},
             "only the last bit of each list differs": {"joined": lambda self, f: Clauses.joined(self, f)[:-1] + "0"},
         }
         for wanted, methods in planted.items():

@@ -69,11 +69,6 @@ def mistakes(path: str) -> typing.Iterator[str]:
         yield f"{count:5} {STEPS[it.step][0]:15} {name} ({it.clause}): {it.wrong}{alike}"
 
 
-def profile_points() -> typing.Iterator[str]:
-    """The points with the number of cases of each profile."""
-    return points.lines({profile: design.designed(profile, 1) for profile in PROFILES})
-
-
 def export(given: argparse.Namespace) -> None:
     """Writes a suite as memory files by code block."""
     bus = beats.Bus(given.width, given.first)
@@ -161,7 +156,8 @@ def options(with_kinds: bool) -> argparse.ArgumentParser:
     words.add("mistakes", written(mistakes, "suite"), said)
     add_export(words)
     said = "writes the points of the clauses, each with the number of cases that cover it"
-    words.add("points", written(profile_points), said, suite=False)
+    by_profile = written(lambda: points.lines({profile: design.designed(profile, 1) for profile in PROFILES}))
+    words.add("points", by_profile, said, suite=False)
     if with_kinds:
         words.whole.commands.add_parser("encoder", help="before one of these words: of an encoder, as without it")
         words.whole.commands.add_parser("receiver", help="before one of these words: the same of a receiver")

@@ -9,8 +9,8 @@ import typing
 from linksim_tools.common.graphs import GRAPHS
 from linksim_tools.conform import bits as lists
 from linksim_tools.conform.case import STEPS, Plan, Tables
-from linksim_tools.conform.clauses import Impossible
-from linksim_tools.conform.code import columns_of, rotated
+from linksim_tools.conform.clauses import Impossible, right
+from linksim_tools.conform.code import TablesKey, columns_of, encoder_of, rotated
 from linksim_tools.conform.encoder.judging import NOTHING, Made, Trial
 from linksim_tools.conform.encoder.points import Facts
 
@@ -22,6 +22,11 @@ FEW_BITS, FEW_ONES, SOME = 16, 5, 20
 
 # How many code blocks of each size are looked at. A size tells a value by its residue alone, so all sizes of a set are wanted.
 EACH = 3
+
+# How an encoder may read the information bits of which it computes the parity bits.
+READ: dict[str, typing.Callable[[str], str]] = {
+    "in reverse": lambda it: it[::-1], "inverted": lambda it: it.translate({48: 49, 49: 48}),
+    "with each octet in reverse": lambda it: "".join(it[at : at + 8][::-1] for at in range(0, len(it), 8))}
 
 
 @dataclasses.dataclass(frozen=True)
@@ -159,11 +164,6 @@ def of_rows(seen: list[Seen]) -> typing.Iterator[str]:
             yield f"only {words} of base graph {graph} {'are' if words.startswith('rows') else 'is'} wrong{always}"
 
 
-def turn_of(found: int, right: int, z: int) -> int:
-    """By how much a right column is rotated to the right to give another one, or -1."""
-    return next((shift for shift in range(z) if rotated(right, z - shift, z) == found), -1) if right and found else -1
-
-
 def of_columns(seen: list[Seen]) -> typing.Iterator[str]:
     """Words for wrong columns that are other right columns, or that are rotated by as much in all code blocks."""
     places: dict[tuple[int, int], set[int]] = {}
@@ -171,7 +171,8 @@ def of_columns(seen: list[Seen]) -> typing.Iterator[str]:
     for it in seen:
         for column in (column for column in it.bad if it.known[column] == it.whole and column >= 2):
             found, key = it.columns[column] ^ it.wrong[column], (it.plan.graph, column)
-            turns.add(turn_of(found, it.columns[column], it.plan.z))
+            own, z = it.columns[column], it.plan.z
+            turns.add(next((by for by in range(z) if own and rotated(own, z - by, z) == found), -1))
             same = {other for other, right in enumerate(it.columns) if right == found and right}
             places[key] = places.get(key, same) & same
     moved = {key: min(others) for key, others in places.items() if others}
@@ -211,6 +212,20 @@ def of_shifts(seen: list[Seen], tables: Tables) -> typing.Iterator[str]:
         yield "shifts that were used: " + "; ".join(said[:SHIFTS]) + ("; .." if len(said) > SHIFTS else "")
 
 
+def of_input(seen: list[Seen], tables: TablesKey) -> typing.Iterator[str]:
+    """Words for parity bits that are right for the information bits, read in another way."""
+    for words, read in READ.items():
+        for it in seen[:SOME]:
+            plan, first = it.plan, it.information
+            info = "".join(f"{column:0{plan.z}b}" for column in it.columns[:first])[: plan.kdash]
+            made = encoder_of(right(), tables, plan.graph, plan.z, plan.set).columns(read(info).ljust(plan.k, "0"))
+            pairs = zip(it.columns[first:], it.wrong[first:], it.known[first:], made[first:])
+            if min(it.bad) < first or any((own ^ wrong ^ other) & known for own, wrong, known, other in pairs):
+                break
+        else:
+            yield f"the wrong parity bits are those of the information bits {words}"
+
+
 def of_single_ones(failing: list[Trial], passing: list[Trial]) -> typing.Iterator[str]:
     """Words for the columns in which a block's single one makes it fail, if few do."""
     for graph in GRAPHS:
@@ -233,5 +248,5 @@ def lines(step: str, failing: list[Trial], passing: list[Trial]) -> list[str]:
                 kept += [it for it in seen_in(step, trial) if it.bad or trials is passing]
                 trial.forget()
     told = [*of_rows([*bad, *good]), of_bits(bad), *of_columns(bad), *of_shifts(bad, failing[0].tables.tables),
-            *of_single_ones(failing, passing)]
+            *of_input(bad, failing[0].tables), *of_single_ones(failing, passing)]
     return [words for words in told if words]
