@@ -4,7 +4,7 @@ use Rattle.std.proofs.Common.{arith}
 use Rattle.std.proofs.Common.{List, [], ◌∷◌, ◌++◌, length, take, drop, get_or, Result, Ok, Err}
 use Rattle.std.proofs.lemmas.Slice.{between_is, take-put_mid_below}
 use Rattle.nr_refusal.specs.Refusal.{◌>>=◌, Gives, with_fault}
-use Rattle.std.proofs.Common.{◌⊎◌, ⊎_elim, eq-eqb, subst}
+use Rattle.std.proofs.Common.{◌⊎◌, ⊎_elim, IfOk, eq-eqb, inl, inr, subst}
 use Rattle.std.proofs.lemmas.Bool.Decides.{nat_tests}
 use Rattle.std.proofs.lemmas.List.{get_or_at, get_or_append_left, length-append}
 use Rattle.std.proofs.lemmas.Bool.{cases_lt, le-leb}
@@ -16,11 +16,11 @@ use Rattle.std.proofs.Math.Nat.{mul-le-mul_right}
 use Rattle.std.specs.Prelude.{nat_le, ◌==◌}
 use borrow.Rule.Slice.PartMut.{put_mid}
 use Rattle.std.specs.Prelude.{true}
-use Rattle.nr_blockdesk.specs.Link.{Link, link_said}
+use Rattle.nr_blockdesk.specs.Link.{IsLink, Link, link_said}
 use Rattle.nr_shifttable.specs.Accepted.{Entries}
 use Rattle.nr_transmission.specs.declared.settings.Settings.{Settings}
 use Rattle.nr_calls.specs.Findings.{Findings}
-use Rattle.nr_calls.specs.Many.{ManyFindings, each_said, is_room_for, places_sent, receive_many_by, room_of_each, nth_row}
+use Rattle.nr_calls.specs.Many.{each_said, is_room_for, places_sent, receive_many_by, room_of_each, nth_row}
 use Rattle.nr_calls.specs.Many.{first_rows}
 use Rattle.nr_calls.specs.Plan.{Planned, planned_said}
 use Rattle.nr_calls.specs.Receiving.{heard_said}
@@ -30,7 +30,7 @@ use Rattle.nr_calls.specs.declared.fault.Fault.TheVariants as fault
 use Rattle.nr_calls.specs.declared.findings.Found.{Found}
 use Rattle.nr_calls.specs.declared.findings.Room.{Room}
 use Rattle.nr_calls.specs.declared.many.ManyFound.{ManyFound}
-use Rattle.nr_calls.specs.inside.Words.{IsLastBlock, findings_of, has_room, many_findings_of}
+use Rattle.nr_calls.specs.inside.Words.{IsLastBlock, findings_of, found_of_each, has_room, many_findings_of}
 use Rattle.nr_calls.proofs.RoomFacts.{filled, same-plan}
 use Rattle.nr_blockdesk.specs.Receiving.{verdict}
 
@@ -83,6 +83,13 @@ each-fails f (x ∷ xs) (suc k) d ys e inside so now =
     let rest = each-fails f xs k d two.others e (omega (arith, inside)) two.others_are now in
     refused (f x) (each_said f xs) two.first e two.first_is rest
 
+-- each block's room goes with what is found of it
+rows-given : (r : Result ManyFound Fault) (said : Result (List Findings) Fault) (each : Room)
+    → Gives fault.Memory found_of_each r said → IfOk r (λ m. m.each ≡ each)
+    → Gives fault.Memory many_findings_of r (said >>= λ found. Ok (record { each = each; found = found }))
+rows-given (Ok m) said each gives is = rw (gives, is) refl
+rows-given (Err e) said each gives is = ⊎_elim (λ memory. inl memory) (λ err. inr (rw err refl)) gives
+
 -- once all is judged that a block's bits don't decide, the blocks' own results are left
 many-rows : (t : Entries) (s : Settings) (n a : ℕ) (ts : List NrTx) (octets : List ℕ) (room : Room) (p : Planned) (link : Link)
     → length ts ≤ 1000 → planned_said s.rate2048 a ≡ Ok p → is_room_for n (room_of_each p.plan.c a ts) room ≡ true
@@ -96,31 +103,24 @@ many-rows t s n a ts octets room p link few planned fits whole linked =
     let all : (length octets == n * places_sent ts) ≡ true = eq-eqb (length octets) (n * places_sent ts) whole in
     rw (few-too, planned, fits, all, linked) refl
 
-module _ (t : Entries) (s : Settings) (n a : ℕ) (ts : List NrTx) (octets : List ℕ) (room : Room) (p : Planned) (link : Link)
-    (places : ℕ) (few : length ts ≤ 1000) (planned : planned_said s.rate2048 a ≡ Ok p)
-    (fits : is_room_for n (room_of_each p.plan.c a ts) room ≡ true) (places-are : places ≡ places_sent ts)
-    (whole : length octets ≡ n * places) (linked : link_said t s a ≡ Ok link) where
-  told : (said : Result (List Findings) Fault) → each_said (heard_said link [] ts) (first_rows places n octets) ≡ said
-      → receive_many_by t s n a ts octets room
-      ≡ (said >>= λ found. Ok (record { each = room_of_each p.plan.c a ts; found = found }))
-  told said each =
-      many-rows t s n a ts octets room p link few planned fits (rw places-are at whole) linked
-      ∙ ap (λ r. r >>= λ found. Ok (record { each = room_of_each p.plan.c a ts; found = found })) (rw places-are at each)
-
-  -- all blocks are received
-  pub many-done : (ys : List Findings) → each_said (heard_said link [] ts) (first_rows places n octets) ≡ Ok ys
-      → receive_many_by t s n a ts octets room ≡ Ok (record { each = room_of_each p.plan.c a ts; found = ys })
-  many-done ys each = told (Ok ys) each
-
-  -- or one is refused
-  pub many-refused : (e : Fault) → each_said (heard_said link [] ts) (first_rows places n octets) ≡ Err e
-      → receive_many_by t s n a ts octets room ≡ Err e
-  many-refused e each = told (Err e) each
-
 -- a refusal, or memory ran out
-pub many-gives : (r : Result ManyFound Fault) (e : Fault) (said : Result ManyFindings Fault) → r ≡ Err e
-    → ((e ≡ fault.Memory) ⊎ (said ≡ Err e)) → Gives fault.Memory many_findings_of r said
-many-gives r e said is why = rw is why
+pub gives-refused : {V Y : Type 0} (view : V → Y) (r : Result V Fault) (e : Fault) (said : Result Y Fault) → r ≡ Err e
+    → ((e ≡ fault.Memory) ⊎ (said ≡ Err e)) → Gives fault.Memory view r said
+gives-refused view r e said is why = rw is why
+
+-- What is found of the blocks, each with the room that it has, is what the call returns.
+pub many-said : (t : Entries) (s : Settings) (n a : ℕ) (ts : List NrTx) (octets : List ℕ) (room : Room) (p : Planned)
+    (link : Link)
+    (places : ℕ) (r : Result ManyFound Fault) → length ts ≤ 1000 → planned_said s.rate2048 a ≡ Ok p
+    → is_room_for n (room_of_each p.plan.c a ts) room ≡ true → places ≡ places_sent ts
+    → length octets ≡ n * places → link_said t s a ≡ Ok link
+    → Gives fault.Memory found_of_each r (each_said (heard_said link [] ts) (first_rows places n octets))
+    → IfOk r (λ m. m.each ≡ room_of_each p.plan.c a ts)
+    → Gives fault.Memory many_findings_of r (receive_many_by t s n a ts octets room)
+many-said t s n a ts octets room p link places r few planned fits places-are whole linked said each =
+    rw (many-rows t s n a ts octets room p link few planned fits (rw places-are at whole) linked)
+    (rows-given r (each_said (heard_said link [] ts) (first_rows (places_sent ts) n octets)) (room_of_each p.plan.c a ts)
+    (rw places-are at said) each)
 
 -- room for all is a multiple of that of each
 pub room-fills : (n : ℕ) (each room : Room) → is_room_for n each room ≡ true
@@ -196,11 +196,18 @@ row-before s j k n xs ys below inside =
     ∙ ap (drop (j * s)) (take-put_mid_below (k * s) n xs ys (j * s + s) within (omega (arith, inside)))
     ∙ sym (between_is xs (j * s) (j * s + s))
 
+-- the room of a block by its link is that by its plan
+pub same-each : (t : Entries) (s : Settings) (a : ℕ) (ts : List NrTx) (link : Link) (p : Planned)
+    → link_said t s a ≡ Ok link → planned_said s.rate2048 a ≡ Ok p
+    → room_of_each p.plan.c a ts ≡ room_of_each link.plan.c link.a ts
+same-each t s a ts link p linked planned =
+    let same = same-plan t s a link p (ap (with_fault fault.Desk) linked) planned in
+    rw (same.0, same.1.0) refl
+
 -- what is found of a block fills its room
-pub each-filled : (t : Entries) (s : Settings) (a : ℕ) (ts : List NrTx) (link : Link) (p : Planned) (f : Found)
-    → planned_said s.rate2048 a ≡ Ok p → link_said t s a ≡ Ok link → length f.outcomes.items ≡ length ts
+pub row-filled : (ts : List NrTx) (link : Link) (f : Found) → IsLink link → length f.outcomes.items ≡ length ts
     → length f.left.items ≡ link.plan.c → IsLastBlock link.a (verdict f.last)
-    → has_room (room_of_each p.plan.c a ts) (findings_of f) ≡ true
-each-filled t s a ts link p f planned linked outcomes left block =
-    filled (Ok f) (room_of_each p.plan.c a ts) link p a (length ts) (grind (arith, nat_tests))
-    (same-plan t s a link p (ap (with_fault fault.Desk) linked) planned) outcomes left block
+    → has_room (room_of_each link.plan.c link.a ts) (findings_of f) ≡ true
+row-filled ts link f sound outcomes left block =
+    filled (Ok f) (room_of_each link.plan.c link.a ts) link (record { graph = link.graph; plan = link.plan }) link.a
+    (length ts) (grind (arith, nat_tests)) (refl, (refl, sound.size)) outcomes left block

@@ -24,6 +24,7 @@ pub mod keeping;
 mod laws;
 mod linking;
 pub mod many;
+mod many_rows;
 pub mod many_sent;
 mod marks;
 pub mod matching;

@@ -7,7 +7,7 @@ ghost use Rattle.nr_shifttable.specs.Accepted.{IsTable};
 ghost use Rattle.nr_calls.specs.Crossing.{settings_in};
 ghost use Rattle.nr_calls.specs.Entries.{are_placed};
 ghost use Rattle.nr_calls.specs.Findings.{places, room_in};
-ghost use Rattle.nr_calls.specs.inside.Words.{FillEach, many_findings_of};
+ghost use Rattle.nr_calls.specs.inside.Words.{FillEach, HasNone, many_findings_of};
 ghost use Rattle.nr_calls.specs.Many.{AreAllWritten, is_room_for, places_sent, receive_many_by, receive_many_said};
 ghost use Rattle.nr_calls.specs.Statuses.{Returns, memory_anywhere};
 
@@ -16,9 +16,8 @@ use crate::entries::{NrEntry, table_by};
 use crate::fault::Fault;
 use crate::findings::{Found, Room, hand_up};
 use crate::linking::link_on;
-use crate::marks::no_marks;
+use crate::many_rows::{Rows, receive_rows};
 use crate::plan::plan_on;
-use crate::receiving::{hear_all, receiver_again, receiver_over};
 use nr_blockdesk::{DeskFault, Outcome, Settings};
 use nr_shifttable::Table;
 use std::alloc::{AllocError, Global};
@@ -30,8 +29,8 @@ pub(crate) const MOST_TRANSMISSIONS: usize = 1000;
 // How many transport blocks there are, and the room for what is found of all of them.
 #[derive(Clone, Copy)]
 pub(crate) struct ManyRoom {
-    count: usize,
-    all: Room,
+    pub(crate) count: usize,
+    pub(crate) all: Room,
 }
 
 // What is found of each block, and how much room each has in its caller's places. Of each it is a row of outcomes, a row
@@ -111,8 +110,7 @@ fn receive_many(
     receive_many_by(alloc, &table, settings, a, txs, octets, room)
 }
 
-// What is found of each block, by a shift table. All that a block's bits don't decide is judged before the first. All blocks
-// begin alike, so the receiver of each is put back to one that is made once.
+// What is found of each block, by a shift table. All that a block's bits don't decide is judged before the first.
 #[tactic(auto, unfolding(crate::specs::Many::receive_many_by))]
 fn receive_many_by(
     alloc: Global,
@@ -145,17 +143,12 @@ fn receive_many_by(
         return Err(Fault::Desk(DeskFault::Length));
     }
     let link = link_on(table, settings, a)?;
-    let mut receiver = receiver_over(alloc, link.again())?;
-    let first = &receiver_over(alloc, link)?;
-    let mut many = ManyFound::with_room(alloc, each, room)?;
-    let (mut marks, mut found) = (no_marks(alloc), Found::none(alloc));
-    for k in 0..room.count {
-        let row = &octets[k * places..k * places + places];
-        receiver = receiver_again(receiver, first)?;
-        found = hear_all(alloc, &mut receiver, txs, row, &mut marks, found)?;
-        many.add(&mut found)?;
-    }
-    Ok(many)
+    let rows = Rows {
+        room,
+        places,
+        octets,
+    };
+    receive_rows(alloc, link, txs, rows, each)
 }
 
 // How many places some transmissions have.
@@ -174,11 +167,13 @@ pub(crate) fn places_sent(txs: &[NrTx]) -> usize
 
 impl ManyFound {
     // Nothing is found yet, and there is room for all.
-    fn with_room(alloc: Global, each: Room, room: ManyRoom) -> Result<ManyFound, AllocError>
+    pub(crate) fn with_room(
+        alloc: Global,
+        each: Room,
+        room: ManyRoom,
+    ) -> Result<ManyFound, AllocError>
         ensures each { IfOk result (λ many. many.each ≡ each) }
-        ensures outcomes { IfOk result (λ many. many.outcomes.items ≡ []) }
-        ensures left { IfOk result (λ many. many.left.items ≡ []) }
-        ensures last { IfOk result (λ many. many.last.items ≡ []) }
+        ensures none { IfOk result HasNone }
     {
         let outcomes = Vec::with_capacity(alloc, room.all.outcomes)?;
         let left = Vec::with_capacity(alloc, room.all.left)?;
@@ -192,7 +187,7 @@ impl ManyFound {
     }
 
     // Adds what is found of the next block, whose outcome is taken.
-    fn add(&mut self, found: &mut Found) -> Result<(), AllocError>
+    pub(crate) fn add(&mut self, found: &mut Found) -> Result<(), AllocError>
         ensures each { self.new.each ≡ self.old.each }
         ensures outcomes { OnOk result
             (self.new.outcomes.items ≡ self.old.outcomes.items ++ found.old.outcomes.items) }

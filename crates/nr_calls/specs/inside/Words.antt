@@ -81,9 +81,27 @@ abbrev pub rows_found : Room → List ℕ → List ℕ → List Verdict → List
 rows_found each outcomes left lasts = map (row_found each outcomes left lasts) (range_with_len 0 (length lasts))
 
 -- what a call has found of each block
+abbrev pub found_of_each : ManyFound → List Findings
+found_of_each m = rows_found m.each m.outcomes.items m.left.items (map verdict m.last.items)
+
+-- and how much room each has
 abbrev pub many_findings_of : ManyFound → ManyFindings
-many_findings_of m =
-    record { each = m.each; found = rows_found m.each m.outcomes.items m.left.items (map verdict m.last.items) }
+many_findings_of m = record { each = m.each; found = found_of_each m }
+
+-- nothing is found of any block yet
+pub record HasNone (m : ManyFound) : Type 0 where
+  pub outcomes : m.outcomes.items ≡ []
+  pub left : m.left.items ≡ []
+  pub last : m.last.items ≡ []
+
+-- what is said to be found of one block more is added, and fills its room
+pub record IsAdded (said : Result Findings Fault) (each : Room) (old new : ManyFound) : Type 0 where
+  pub found : Findings
+  pub is : said ≡ Ok found
+  pub fills : has_room each found ≡ true
+  pub outcomes : new.outcomes.items ≡ old.outcomes.items ++ found.outcomes
+  pub left : new.left.items ≡ old.left.items ++ found.left
+  pub last : map verdict new.last.items ≡ map verdict old.last.items ++ found.last ∷ []
 
 -- what is found of all blocks fills the caller's room, and each block that is delivered its own
 pub record FillEach (all : Room) (m : ManyFound) : Type 0 where
