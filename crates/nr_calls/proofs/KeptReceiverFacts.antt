@@ -9,6 +9,7 @@ use Rattle.nr_calls.proofs.Common.{IsTaken, arriving, block_fits, after_taking, 
 use Rattle.nr_calls.proofs.Common.{heard_octet, record_octets, records_from, room_header, room_length, room_of, Fault}
 use Rattle.nr_calls.specs.{inside.Words.TakesSaid, inside.Words.taken_room, Statuses.Returns, Statuses.memory_anywhere}
 use Rattle.nr_calls.specs.{Keeping.Arriving, Keeping.IsKept, Keeping.arriving_by, Keeping.start_by, declared.taken.Taken.Taken}
+use Rattle.nr_calls.specs.inside.Keepings.{arriving_over}
 use Rattle.nr_calls.specs.{Rooms.record_in, Rooms.records_in, declared.taken.KeptRoom.KeptRoom}
 use Rattle.nr_calls.proofs.RoomFacts.{octets-of}
 use Rattle.nr_calls.proofs.RoomOctetFacts.{read_none, room_long, rooms-written, with_read}
@@ -21,18 +22,37 @@ last-step : {X : Type 0} (r : Result (List ℕ) Fault) (x : X) → IsOk r → (r
 last-step (Ok lengths) x ok = refl
 last-step (Err e) x ok = grind arith
 
-arriving-is : (table : Entries) (digest : ℕ) (settings : Settings) (a : ℕ) (room : List ℕ) (places : KeptRoom) (tx : Tx)
-    (octets : List ℕ) (p : Planned) (link : Link)
-    (records : List HeardBits) → planned_said settings.rate2048 a ≡ Ok p → is_kept_room places p a ≡ true
-    → link_said table settings a ≡ Ok link
+arriving-is : (link : Link) (digest : ℕ) (room : List ℕ) (tx : Tx) (octets : List ℕ) (records : List HeardBits)
     → or_fault fault.State (records_in digest link room) ≡ Ok records
     → IsOk (with_fault fault.Desk (reception_said link (reception tx (map heard_octet octets))))
-    → arriving_by table digest settings a room places tx octets ≡ Ok (arriving link digest records tx octets)
-unfolding arriving_by
-arriving-is table digest settings a room places tx octets p link records planned fits linked read ok =
-    rw (planned, fits, linked, read)
+    → arriving_over link digest room tx octets ≡ Ok (arriving link digest records tx octets)
+arriving-is link digest room tx octets records read ok =
+    rw read
     (last-step (with_fault fault.Desk (reception_said link (reception tx (map heard_octet octets))))
     (arriving link digest records tx octets) ok)
+
+-- once all before the room is judged, the link tells the rest
+pub by-link : (table : Entries) (digest : ℕ) (settings : Settings) (a : ℕ) (room : List ℕ) (places : KeptRoom) (tx : Tx)
+    (octets : List ℕ) (p : Planned) (link : Link)
+    → planned_said settings.rate2048 a ≡ Ok p → is_kept_room places p a ≡ true → link_said table settings a ≡ Ok link
+    → arriving_by table digest settings a room places tx octets ≡ arriving_over link digest room tx octets
+unfolding arriving_by
+by-link table digest settings a room places tx octets p link planned fits linked = rw (planned, fits, linked) refl
+
+-- what arrives over a link has this link
+over-link : (link : Link) (digest : ℕ) (room : List ℕ) (tx : Tx) (octets : List ℕ) (x : Arriving)
+    → arriving_over link digest room tx octets ≡ Ok x → x.link ≡ link
+over-link link digest room tx octets x is = go (or_fault fault.State (records_in digest link room))
+    (with_fault fault.Desk (reception_said link (reception tx (map heard_octet octets)))) is
+  where
+    go : (read : Result (List HeardBits) Fault) (lengths : Result (List ℕ) Fault)
+        → (read >>= λ records. lengths >>= λ (_ : List ℕ). Ok (arriving link digest records tx octets)) ≡ Ok x
+        → x.link ≡ link
+    go (Ok records) (Ok some) told =
+        let same : x ≡ arriving link digest records tx octets = cc in
+        ap (λ (y : Arriving). y.link) same
+    go (Ok records) (Err e) told = grind arith
+    go (Err e) lengths told = grind arith
 
 -- a block that is delivered fills its place
 pub decided-fits : (link : Link) (records : List HeardBits) (v : Verdict) (m : ℕ) → IsDecided link records v
@@ -138,16 +158,11 @@ fit-of link digest room records read =
 
 -- the room of a new receiver
 pub start-is : (table : Entries) (digest : ℕ) (settings : Settings) (a room : ℕ) (p : Planned) (link : Link)
-    (header octets : List ℕ) (heard : List HeardBits)
     → planned_said settings.rate2048 a ≡ Ok p → (room == room_length p.graph p.plan) ≡ true
     → link_said table settings a ≡ Ok link
-    → octets ≡ header ++ flat_map record_octets heard → header ≡ room_header digest link → heard ≡ heard_record link []
-    → start_by table digest settings a room ≡ Ok octets
-unfolding start_by room_of
-start-is table digest settings a room p link header octets heard planned fits linked octets-is header-is heard-is =
-    rw (planned, fits, linked)
-    (ap (λ (xs : List ℕ). Ok xs) (sym (octets-is ∙ ap (λ (h : List ℕ). h ++ flat_map record_octets heard) header-is
-    ∙ ap (λ (s : List HeardBits). room_header digest link ++ flat_map record_octets s) heard-is)))
+    → start_by table digest settings a room ≡ Ok (room_of digest link (heard_record link []))
+unfolding start_by
+start-is table digest settings a room p link planned fits linked = rw (planned, fits, linked) refl
 
 -- a new receiver whose link is refused
 pub unlinked : (table : Entries) (digest : ℕ) (settings : Settings) (a room : ℕ) (p : Planned) (e : Fault)
@@ -172,55 +187,48 @@ pub room-fits : (digest : ℕ) (link : Link) (octets : List ℕ) (heard : List H
 room-fits digest link octets heard n is fit n-is = ap length is ∙ room_long digest link heard fit ∙ sym n-is
 
 -- a room that is not the link's, and a reception that is refused
-pub unread : (table : Entries) (digest : ℕ) (settings : Settings) (a : ℕ) (room : List ℕ) (places : KeptRoom) (tx : Tx)
-    (octets : List ℕ) (p : Planned) (link : Link) (e : Fault)
-    → planned_said settings.rate2048 a ≡ Ok p → is_kept_room places p a ≡ true → link_said table settings a ≡ Ok link
+pub unread : (link : Link) (digest : ℕ) (room : List ℕ) (tx : Tx) (octets : List ℕ) (e : Fault)
     → (e ≡ fault.Memory) ⊎ (or_fault fault.State (records_in digest link room) ≡ Err e)
-    → (e ≡ fault.Memory) ⊎ (arriving_by table digest settings a room places tx octets ≡ Err e)
-unfolding arriving_by
-unread table digest settings a room places tx octets p link e planned fits linked told =
+    → (e ≡ fault.Memory) ⊎ (arriving_over link digest room tx octets ≡ Err e)
+unread link digest room tx octets e told =
     ⊎_elim (λ (m : e ≡ fault.Memory). inl m)
-    (λ (is : or_fault fault.State (records_in digest link room) ≡ Err e). inr (rw (planned, fits, linked, is) refl)) told
+    (λ (is : or_fault fault.State (records_in digest link room) ≡ Err e). inr (rw is refl)) told
 
-untaken : (table : Entries) (digest : ℕ) (settings : Settings) (a : ℕ) (room : List ℕ) (places : KeptRoom) (tx : Tx)
-    (octets : List ℕ) (p : Planned) (link : Link) (e : Fault)
-    (records : List HeardBits) → planned_said settings.rate2048 a ≡ Ok p → is_kept_room places p a ≡ true
-    → link_said table settings a ≡ Ok link
+untaken : (link : Link) (digest : ℕ) (room : List ℕ) (tx : Tx) (octets : List ℕ) (e : Fault) (records : List HeardBits)
     → or_fault fault.State (records_in digest link room) ≡ Ok records
     → (e ≡ fault.Memory) ⊎ (with_fault fault.Desk (reception_said link (reception tx (map heard_octet octets))) ≡ Err e)
-    → (e ≡ fault.Memory) ⊎ (arriving_by table digest settings a room places tx octets ≡ Err e)
-unfolding arriving_by
-untaken table digest settings a room places tx octets p link e records planned fits linked read told =
+    → (e ≡ fault.Memory) ⊎ (arriving_over link digest room tx octets ≡ Err e)
+untaken link digest room tx octets e records read told =
     ⊎_elim (λ (m : e ≡ fault.Memory). inl m)
     (λ (is : with_fault fault.Desk (reception_said link (reception tx (map heard_octet octets))) ≡ Err e).
-    inr (rw (planned, fits, linked, read, is) refl)) told
+    inr (rw (read, is) refl)) told
 
 -- what the receiver of a room has taken up is what the specification says about the room and the reception
-pub taken-said : (r : Result Taken Fault) (table : Entries) (digest : ℕ) (settings : Settings) (a : ℕ) (room : List ℕ)
-    (places : KeptRoom) (tx : Tx)
-    (octets : List ℕ) (p : Planned) (link : Link) (records : List HeardBits) → planned_said settings.rate2048 a ≡ Ok p
-    → is_kept_room places p a ≡ true → link_said table settings a ≡ Ok link
-    → or_fault fault.State (records_in digest link room) ≡ Ok records
+pub taken-said : (r : Result Taken Fault) (link : Link) (digest : ℕ) (room : List ℕ) (tx : Tx) (octets : List ℕ)
+    (records : List HeardBits) → or_fault fault.State (records_in digest link room) ≡ Ok records
     → RefusesAs fault.Memory r (with_fault fault.Desk (reception_said link (reception tx (map heard_octet octets))))
     → IfOk r (IsTaken (arriving link digest records tx octets))
-    → TakesSaid r (arriving_by table digest settings a room places tx octets)
-taken-said (Ok t) table digest settings a room places tx octets p link records planned fits linked read ok taken = (
+    → TakesSaid r (arriving_over link digest room tx octets)
+taken-said (Ok t) link digest room tx octets records read ok taken = (
   arriving link digest records tx octets,
-  arriving-is table digest settings a room places tx octets p link records planned fits linked read ok,
+  arriving-is link digest room tx octets records read ok,
   taken,
 )
-taken-said (Err e) table digest settings a room places tx octets p link records planned fits linked read told taken =
-    untaken table digest settings a room places tx octets p link e records planned fits linked read told
+taken-said (Err e) link digest room tx octets records read told taken =
+    untaken link digest room tx octets e records read told
 
 -- and it fills its caller's places
-pub taken-fits : (r : Result Taken Fault) (places : KeptRoom) (p : Planned) (x : Arriving) (a : ℕ)
-    → is_kept_room places p a ≡ true
-    → (x.link.plan ≡ p.plan) × ((x.link.a ≡ a) × (is_size a ≡ true)) → x.link.graph ≡ p.graph → IfOk r (IsTaken x)
-    → IfOk r (λ t. taken_room places t ≡ true)
-taken-fits (Ok t) places p x a asked same graph taken =
-    places-filled places p x.link x.digest a (after_taking x) t.room.items t.left.items (verdict t.last) asked same graph taken.fit
-    taken.room taken.left taken.decided
-taken-fits (Err e) places p x a asked same graph taken = tt
+pub taken-fits : (r : Result Taken Fault) (places : KeptRoom) (p : Planned) (link : Link) (digest a : ℕ) (room : List ℕ)
+    (tx : Tx) (octets : List ℕ) → is_kept_room places p a ≡ true
+    → (link.plan ≡ p.plan) × ((link.a ≡ a) × (is_size a ≡ true)) → link.graph ≡ p.graph
+    → TakesSaid r (arriving_over link digest room tx octets) → IfOk r (λ t. taken_room places t ≡ true)
+taken-fits (Ok t) places p link digest a room tx octets asked same graph said =
+    let x = said.0 in
+    let is = over-link link digest room tx octets x said.1 in
+    places-filled places p x.link x.digest a (after_taking x) t.room.items t.left.items (verdict t.last) asked
+    (subst (λ (l : Link). (l.plan ≡ p.plan) × ((l.a ≡ a) × (is_size a ≡ true))) (sym is) same)
+    (subst (λ (l : Link). l.graph ≡ p.graph) (sym is) graph) said.2.fit said.2.room said.2.left said.2.decided
+taken-fits (Err e) places p link digest a room tx octets asked same graph said = tt
 
 -- octets that were made are those of the specification, if memory alone refuses them
 pub made-said : {V : Type 0} (view : V → List ℕ) (r : Result V Fault) (made : List ℕ) (said : Result (List ℕ) Fault)
@@ -228,9 +236,3 @@ pub made-said : {V : Type 0} (view : V → List ℕ) (r : Result V Fault) (made 
     → Gives fault.Memory view r said
 made-said view (Ok v) made said is err told = told ∙ ap (λ (xs : List ℕ). Ok xs) (sym is)
 made-said view (Err e) made said is err told = inl err
-
-pub made-long : {V : Type 0} (view : V → List ℕ) (r : Result V Fault) (made : List ℕ) (n : ℕ)
-    → IfOk r (λ v. view v ≡ made)
-    → length made ≡ n → IfOk r (λ v. length (view v) ≡ n)
-made-long view (Ok v) made n is long = ap length is ∙ long
-made-long view (Err e) made n is long = tt

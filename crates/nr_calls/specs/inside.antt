@@ -3,3 +3,4 @@ pub mod Batches
 pub mod Words
 pub mod Placings
 pub mod Joinings
+pub mod Keepings

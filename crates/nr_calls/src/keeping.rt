@@ -1,12 +1,15 @@
 //! A receiver whose state is in its caller's memory, and which receives one transmission at a call.
 
-ghost use Rattle.std.specs.Prelude.{◌≡◌, ℕ, ◌++◌, Err, flat_map, length, map, false, true, IfErr, IfOk};
+ghost use Rattle.std.specs.Prelude.{◌≡◌, ℕ, ◌++◌, [], Err, flat_map, length, map, false, true, IfErr, IfOk};
 ghost use Rattle.nr_refusal.specs.Refusal.{Gives, or_fault, with_fault};
 ghost use Rattle.nr_blockdesk.specs.{Explains.reception, Explains.reception_said, Receiving.AreStoresFor, Receiving.RefusesAs};
 ghost use Rattle.nr_calls.specs.Keeping.{IsKept, arriving_said, kept_places, kept_room, room_said};
 ghost use Rattle.nr_calls.specs.{Crossing.settings_in, Crossing.tx_of, Entries.are_placed, Keeping.KeptIsOnly, Keeping.start_said};
+ghost use Rattle.nr_calls.specs.inside.Keepings.{arriving_over};
 ghost use Rattle.nr_calls.specs.inside.Words.{IsTaken, TakesSaid, arriving, taken_room};
 ghost use Rattle.nr_calls.specs.{Receiving.heard_octet, Rooms.record_octets, Rooms.records_in, Rooms.room_header};
+ghost use Rattle.nr_calls.specs.{Rooms.room_length, Rooms.room_of};
+ghost use Rattle.nr_blockdesk.specs.Heard.{heard_record};
 ghost use Rattle.nr_calls.specs.Statuses.{HasValue, Returns, memory_anywhere, no_memory};
 
 use crate::crossing::{NrSettings, NrTx};
@@ -79,6 +82,18 @@ fn started(alloc: Global, params: LinkParams<'_>, room: usize) -> Result<Vec<u8>
         return Err(Fault::Room);
     }
     let link = link_on(&table, params.settings, params.a)?;
+    start_over(alloc, link, digest)
+}
+
+// The room over a link. Memory alone refuses it. It stands apart from what judges the call, so that a refusal has few values
+// to drop.
+fn start_over(alloc: Global, link: Link<'_>, digest: u32) -> Result<Vec<u8>, Fault>
+    ensures octets { IfOk result (λ octets. octets.items
+        ≡ room_of digest link.entry (heard_record link.entry [])) }
+    ensures long { IfOk result (λ octets. length octets.items
+        ≡ room_length link.entry.graph link.entry.plan) }
+    ensures err { IfErr result (λ fault. fault ≡ Fault.Memory) }
+{
     let header = header_on(alloc, &link, digest)?;
     let receiver = receiver_over(alloc, link)?;
     room_on(header, &receiver)
@@ -153,6 +168,20 @@ fn take_up(
         return Err(Fault::Room);
     }
     let link = link_on(&table, params.settings, params.a)?;
+    take_over(alloc, link, digest, room, tx, octets)
+}
+
+// What a receiver over a link has after it. Like `start_over`, it stands apart from what judges the call.
+fn take_over(
+    alloc: Global,
+    link: Link<'_>,
+    digest: u32,
+    room: &[u8],
+    tx: &Tx,
+    octets: &[u8],
+) -> Result<Taken, Fault>
+    ensures { TakesSaid result (arriving_over link.entry digest room.now tx.now octets.now) }
+{
     let header = header_on(alloc, &link, digest)?;
     let stores = stores_on(alloc, &link, &header, room)?;
     take_on(alloc, link, stores, header, tx, octets)
