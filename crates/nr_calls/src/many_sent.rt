@@ -9,7 +9,7 @@ ghost use Rattle.nr_calls.specs.Crossing.{AreBits, settings_in, tx_of};
 ghost use Rattle.nr_calls.specs.Entries.{are_placed};
 ghost use Rattle.nr_calls.specs.inside.Simulating.{AreAccepted};
 ghost use Rattle.nr_calls.specs.inside.Words.{joined};
-ghost use Rattle.nr_calls.specs.Many.{first_rows, send_many_said};
+ghost use Rattle.nr_calls.specs.Many.{first_rows, send_many_by, send_many_said};
 ghost use Rattle.nr_calls.specs.Statuses.{Returns, memory_anywhere};
 
 use crate::crossing::{NrSettings, NrTx, write_bits};
@@ -64,8 +64,8 @@ pub fn nr_send_many(
     }
 }
 
-// The bits of all blocks. Everything is judged before the first block is read.
-#[tactic(auto, unfolding(crate::specs::Many::send_many_said, crate::specs::Many::send_many_by))]
+// The bits of all blocks, by a shift table's entries.
+#[tactic(auto, unfolding(crate::specs::Many::send_many_said))]
 fn send_many(
     alloc: Global,
     params: LinkParams<'_>,
@@ -78,20 +78,37 @@ fn send_many(
     ensures room { IfOk result (λ parts. length (joined parts.items) ≡ blocks.entry.room) }
     ensures placed { are_placed params.entry.entries.now ≡ false → result ≡ Err Fault.Entries }
 {
-    laws::accepted_send_all();
     let table = table_by(alloc, params.entries)?;
+    send_many_by(alloc, &table, params, txs, blocks)
+}
+
+// The bits of all blocks, by a shift table. Everything is judged before the first block is read.
+#[tactic(auto, unfolding(crate::specs::Many::send_many_by))]
+fn send_many_by(
+    alloc: Global,
+    table: &Table,
+    params: LinkParams<'_>,
+    txs: &[NrTx],
+    blocks: Blocks<'_>,
+) -> Result<Vec<Bits>, Fault>
+    ensures said { Gives Fault.Memory (λ parts. joined parts.items) result
+        (send_many_by table.now params.entry.settings blocks.entry.count params.entry.a
+        txs.now blocks.entry.octets.now blocks.entry.room) }
+    ensures room { IfOk result (λ parts. length (joined parts.items) ≡ blocks.entry.room) }
+{
+    laws::accepted_send_all();
     if txs.len() > MOST_TRANSMISSIONS {
         return Err(Fault::Many);
     }
     if blocks.octets.len() as u128 != blocks.count as u128 * u128::from(params.a / 8) {
         return Err(Fault::Desk(DeskFault::Size));
     }
-    let link = link_on(&table, params.settings, params.a)?;
+    let link = link_on(table, params.settings, params.a)?;
     judge_all(&link, txs)?;
     if blocks.room as u128 != blocks.count as u128 * places_sent(txs) as u128 {
         return Err(Fault::Room);
     }
-    send_rows(alloc, &table, params, &link, txs, blocks)
+    send_rows(alloc, table, params, &link, txs, blocks)
 }
 
 // The bits of the blocks in turn, once all is judged. Memory alone refuses them.

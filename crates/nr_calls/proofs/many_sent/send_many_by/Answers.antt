@@ -1,7 +1,7 @@
 use Rattle.std.proofs.Common.{◌∙◌, ap, sym, ◌/◌, ◌*◌}
 use Rattle.nr_calls.specs.inside.Words.{joined}
 use Rattle.nr_calls.proofs.ManySentFacts.{all-long, made-room}
-use Rattle.nr_calls.proofs.many_sent.send_many.Goals as goal
+use Rattle.nr_calls.proofs.many_sent.send_many_by.Goals as goal
 
 pub returns-clause-room : goal.returns-clause-room
 returns-clause-room c =
