@@ -1,13 +1,14 @@
 //! What `run` does with each transmission and each round, and what it keeps of them. A slot has a receiver only as long
 //! as later transmissions continue its round.
 
-ghost use Rattle.std.specs.Prelude.{IfOk, List, OnOk, [], if◌then◌else◌, length, replicate, ◌++◌, ◌-◌, ◌<◌};
+ghost use Rattle.std.specs.Prelude.{IfOk, List, Ok, OnOk, [], if◌then◌else◌, length, replicate, ◌++◌, ◌-◌, ◌<◌};
 ghost use Rattle.std.specs.Prelude.{◌^◌, ◌≡◌};
 ghost use Rattle.nr_refusal.specs.Refusal.{FailsAs};
-ghost use Rattle.nr_blockdesk.specs.Explains.{Reception};
+ghost use Rattle.nr_blockdesk.specs.{Explains.Reception, Heard.heard_record, Sent.sent_said};
 ghost use Rattle.nr_commands.specs.Command.{Writes};
-ghost use Rattle.nr_linkcommands.specs.inside.Ends.{HasReceived, HoldsState, IsOver, IsWithin, KeepsRounds, empty_slot};
-ghost use Rattle.nr_linkcommands.specs.RoundTexts.{process_count};
+ghost use Rattle.nr_linkcommands.specs.inside.Ends.{HasReceived, HoldsState, IsOver, IsRxState, IsWithin, KeepsRounds};
+ghost use Rattle.nr_linkcommands.specs.inside.Ends.{empty_slot};
+ghost use Rattle.nr_linkcommands.specs.{RoundTexts.process_count, RunLines.left_lines};
 ghost use Rattle.nr_linkcommands.specs.RunText.{lines_of, received_of, run_words, totals_of};
 
 use super::ends::{Totals, no_totals, write_round_end};
@@ -18,6 +19,7 @@ use crate::laws;
 use crate::ready::Ready;
 use crate::schedule_walk::Walk;
 use crate::send_command::write_sent;
+use nr_bitvec::Bits;
 use nr_blockdesk::Sender;
 use nr_commands::{RunFault, put_line};
 use nr_files::{Transmission, goes_on};
@@ -114,18 +116,56 @@ fn send_and_receive<'t, O: Sink>(
         → HoldsState sender.now.link (list ++ received_of sender.now transmission.now) state.new) }
     ensures put { FailsAs RunFault.Write result (O.failures out.old) (O.failures out.new) }
 {
-    laws::plans_are_sound();
-    sender.is_sound();
-    laws::accepted_send_all();
     match write_sent(alloc, sender, transmission, out)? {
         None => Ok(()),
-        Some(bits) => {
-            // What arrives takes memory only after that of the line is free again.
-            let arrival = arrival_of(alloc, transmission, bits)?;
-            let after = next_state(sender, state.take(), &transmission.tx, &arrival)?;
-            put_line(out, left_lines(alloc, transmission, &after.receiver))?;
-            *state = Some(after);
-            Ok(())
-        }
+        Some(bits) => receive_sent(alloc, sender, state, transmission, bits, out),
     }
+}
+
+// Receives what arrives of the bits that a transmission sends, and writes the lines of the code blocks.
+fn receive_sent<'t, O: Sink>(
+    alloc: Global,
+    sender: &Sender<'t>,
+    state: &mut Option<RxState<'t>>,
+    transmission: &Transmission,
+    bits: Bits,
+    out: &mut O,
+) -> Result<(), RunFault>
+    requires puts { O.failures out.old < 2 ^ 32 }
+    requires room { HasReceived (2 ^ 64 - 2) state.old }
+    requires same_link { IsOver sender.now.link state.old }
+    requires sent { sent_said sender.now.link transmission.now.tx sender.now.block ≡ Ok bits.items }
+    ensures text { (list : List Reception) → HoldsState sender.now.link list state.old
+        → Writes (O.written out.old) (O.written out.new) result
+        (left_lines transmission.now.number transmission.now.block sender.now.link
+        (heard_record sender.now.link (list ++ received_of sender.now transmission.now))) }
+    ensures held { OnOk result ((list : List Reception) → HoldsState sender.now.link list state.old
+        → HoldsState sender.now.link (list ++ received_of sender.now transmission.now) state.new) }
+    ensures put { FailsAs RunFault.Write result (O.failures out.old) (O.failures out.new) }
+{
+    laws::plans_are_sound();
+    sender.is_sound();
+    // What arrives takes memory only after that of the line is free again.
+    let after = state_after(alloc, sender, state, transmission, bits)?;
+    let kept = state.insert(after);
+    put_line(out, left_lines(alloc, transmission, &kept.receiver))
+}
+
+// The state of a receiver after a transmission that sends these bits. The state before is used up.
+fn state_after<'t>(
+    alloc: Global,
+    sender: &Sender<'t>,
+    state: &mut Option<RxState<'t>>,
+    transmission: &Transmission,
+    bits: Bits,
+) -> Result<RxState<'t>, AllocError>
+    requires room { HasReceived (2 ^ 64 - 2) state.old }
+    requires same_link { IsOver sender.now.link state.old }
+    requires sent { sent_said sender.now.link transmission.now.tx sender.now.block ≡ Ok bits.items }
+    ensures { IfOk result (λ after. (list : List Reception) → HoldsState sender.now.link list state.old
+        → IsRxState sender.now.link (list ++ received_of sender.now transmission.now) after) }
+{
+    laws::accepted_send_all();
+    let arrival = arrival_of(alloc, transmission, bits)?;
+    next_state(sender, state.take(), &transmission.tx, &arrival)
 }
