@@ -8,7 +8,7 @@ ghost use Rattle.nr_blockdesk.specs.Sent.{sending_said, sent_said, tx_said};
 ghost use Rattle.nr_transmission.specs.declared.fault.DeskFault.TheVariants as desk;
 ghost use Rattle.nr_calls.specs.Crossing.{AreBits, settings_in, tx_of};
 ghost use Rattle.nr_calls.specs.Entries.{are_placed};
-ghost use Rattle.nr_calls.specs.Sending.{send_into_said, send_call_said};
+ghost use Rattle.nr_calls.specs.Sending.{send_into_said, send_by, send_call_said};
 ghost use Rattle.nr_calls.specs.Statuses.{Returns, memory_anywhere};
 
 use crate::crossing::{NrSettings, NrTx, write_bits};
@@ -73,8 +73,8 @@ fn send_into(
     Ok(bits)
 }
 
-// The bits of a transmission.
-#[tactic(auto, unfolding(crate::specs::Sending::send_call_said, crate::specs::Sending::send_by))]
+// The bits of a transmission, by a shift table's entries.
+#[tactic(auto, unfolding(crate::specs::Sending::send_call_said))]
 pub(crate) fn send(
     alloc: Global,
     table: &[NrEntry],
@@ -87,10 +87,25 @@ pub(crate) fn send(
     ensures placed { are_placed table.now ≡ false → result ≡ Err Fault.Entries }
 {
     let table = table_by(alloc, table)?;
+    send_by(alloc, &table, settings, block, tx)
+}
+
+// The bits of a transmission, by a shift table.
+#[tactic(auto, unfolding(crate::specs::Sending::send_by))]
+fn send_by(
+    alloc: Global,
+    table: &Table,
+    settings: Settings,
+    block: &[u8],
+    tx: &Tx,
+) -> Result<Bits, Fault>
+    ensures { Gives Fault.Memory (λ bits. bits.items) result
+        (send_by table.now settings block.now tx.now) }
+{
     if block.len() > MOST_OCTETS {
         return Err(Fault::Desk(DeskFault::Size));
     }
-    let sender = sender_of(alloc, &table, settings, block)?;
+    let sender = sender_of(alloc, table, settings, block)?;
     sent_by(&sender, tx)
 }
 
