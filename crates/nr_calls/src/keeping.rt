@@ -3,8 +3,9 @@
 ghost use Rattle.std.specs.Prelude.{◌≡◌, ℕ, ◌++◌, [], Err, flat_map, length, map, false, true, IfErr, IfOk};
 ghost use Rattle.nr_refusal.specs.Refusal.{Gives, or_fault, with_fault};
 ghost use Rattle.nr_blockdesk.specs.{Explains.reception, Explains.reception_said, Receiving.AreStoresFor, Receiving.RefusesAs};
-ghost use Rattle.nr_calls.specs.Keeping.{IsKept, arriving_said, kept_places, kept_room, room_said};
-ghost use Rattle.nr_calls.specs.{Crossing.settings_in, Crossing.tx_of, Entries.are_placed, Keeping.KeptIsOnly, Keeping.start_said};
+ghost use Rattle.nr_calls.specs.Keeping.{IsKept, arriving_by, arriving_said, kept_places, kept_room, room_said};
+ghost use Rattle.nr_calls.specs.{Crossing.settings_in, Crossing.tx_of, Entries.are_placed, Keeping.KeptIsOnly};
+ghost use Rattle.nr_calls.specs.{Keeping.start_by, Keeping.start_said, Rooms.digest_of};
 ghost use Rattle.nr_calls.specs.inside.Keepings.{arriving_over};
 ghost use Rattle.nr_calls.specs.inside.Words.{IsTaken, TakesSaid, arriving, taken_room};
 ghost use Rattle.nr_calls.specs.{Receiving.heard_octet, Rooms.record_octets, Rooms.records_in, Rooms.room_header};
@@ -25,6 +26,7 @@ use crate::table::graph_number;
 use crate::taken::{KeptRoom, Taken};
 use nr_blockdesk::{Link, Receiver, Tx, Unrecorded};
 use nr_harqbuf::Store;
+use nr_shifttable::Table;
 use std::alloc::{AllocError, Global};
 
 // The version of the room's layout.
@@ -67,21 +69,36 @@ pub fn nr_receiver_start(
     }
 }
 
-// The room of a receiver that has received nothing.
-#[tactic(auto, unfolding(crate::specs::Keeping::start_said, crate::specs::Keeping::start_by))]
+// The room of a receiver that has received nothing, by a shift table's entries.
+#[tactic(auto, unfolding(crate::specs::Keeping::start_said))]
 fn started(alloc: Global, params: LinkParams<'_>, room: usize) -> Result<Vec<u8>, Fault>
     ensures said { Gives Fault.Memory (λ octets. octets.items) result
         (start_said params.entry.entries.now params.entry.settings params.entry.a room) }
     ensures room { IfOk result (λ octets. length octets.items ≡ room) }
     ensures placed { are_placed params.entry.entries.now ≡ false → result ≡ Err Fault.Entries }
 {
-    let digest = digest_of(params.entries);
     let table = table_by(alloc, params.entries)?;
+    started_by(alloc, &table, params, room)
+}
+
+// The room by a shift table that these entries make.
+#[tactic(auto, unfolding(crate::specs::Keeping::start_by))]
+fn started_by(
+    alloc: Global,
+    table: &Table,
+    params: LinkParams<'_>,
+    room: usize,
+) -> Result<Vec<u8>, Fault>
+    ensures said { Gives Fault.Memory (λ octets. octets.items) result (start_by table.now
+        (digest_of params.entry.entries.now) params.entry.settings params.entry.a room) }
+    ensures room { IfOk result (λ octets. length octets.items ≡ room) }
+{
+    let digest = digest_of(params.entries);
     let plan = plan_on(params.settings.rate2048, params.a)?;
     if room != room_length(&plan) {
         return Err(Fault::Room);
     }
-    let link = link_on(&table, params.settings, params.a)?;
+    let link = link_on(table, params.settings, params.a)?;
     start_over(alloc, link, digest)
 }
 
@@ -145,9 +162,8 @@ pub fn nr_receiver_take(
     }
 }
 
-// What a receiver has after one more transmission. All is made before anything is written, so that a refusal writes
-// nothing.
-#[tactic(auto, unfolding(crate::specs::Keeping::arriving_said, crate::specs::Keeping::arriving_by))]
+// What a receiver has after one more transmission, by a shift table's entries.
+#[tactic(auto, unfolding(crate::specs::Keeping::arriving_said))]
 fn take_up(
     alloc: Global,
     params: LinkParams<'_>,
@@ -161,13 +177,32 @@ fn take_up(
     ensures room { IfOk result (λ taken. taken_room places taken ≡ true) }
     ensures placed { are_placed params.entry.entries.now ≡ false → result ≡ Err Fault.Entries }
 {
-    let digest = digest_of(params.entries);
     let table = table_by(alloc, params.entries)?;
+    take_up_by(alloc, &table, params, room, places, tx, octets)
+}
+
+// What it has by a shift table that these entries make. All is made before anything is written, so that a refusal writes
+// nothing.
+#[tactic(auto, unfolding(crate::specs::Keeping::arriving_by))]
+fn take_up_by(
+    alloc: Global,
+    table: &Table,
+    params: LinkParams<'_>,
+    room: &[u8],
+    places: KeptRoom,
+    tx: &Tx,
+    octets: &[u8],
+) -> Result<Taken, Fault>
+    ensures said { TakesSaid result (arriving_by table.now (digest_of params.entry.entries.now)
+        params.entry.settings params.entry.a room.now places tx.now octets.now) }
+    ensures room { IfOk result (λ taken. taken_room places taken ≡ true) }
+{
+    let digest = digest_of(params.entries);
     let plan = plan_on(params.settings.rate2048, params.a)?;
     if !places.is_for(&plan, params.a) {
         return Err(Fault::Room);
     }
-    let link = link_on(&table, params.settings, params.a)?;
+    let link = link_on(table, params.settings, params.a)?;
     take_over(alloc, link, digest, room, tx, octets)
 }
 
