@@ -15,6 +15,21 @@ PRACTICE = clib.PRACTICE.read_bytes()
 PRACTICE_TABLE = clib.table(PRACTICE)
 
 
+def rows_with_odd(turn: int) -> list[list[int]]:
+    """Tables of both base graphs with drawn values of 16 bits. Three of the rows 0 to 3 have the first parity column: that of this
+    turn has other values in it than the other two."""
+    draw, rows = random.Random(turn), clib.rows_of(PRACTICE + DRAWN)
+    for graph, sizes in GRAPHS.items():
+        first = [row for row in rows if row[0] == graph and row[1] < 4 and row[2] == sizes.information]
+        same, other = ([draw.randrange(1 << 16) for _ in range(8)] for _ in range(2))
+        for at, row in enumerate(first):
+            row[3:] = other if at == turn else same
+        for row in rows:
+            if row[0] == graph and row[2] < sizes.information:
+                row[3:] = [draw.randrange(1 << 16) for _ in range(8)]
+    return rows
+
+
 class Answers(unittest.TestCase):
     """Of each call that computes."""
 
@@ -114,9 +129,14 @@ class Answers(unittest.TestCase):
 
     def test_encoded(self) -> None:
         """Bits and fillers at any place, by each base graph and lifting size that a code block has."""
-        both, draw = PRACTICE + DRAWN, random.Random(8)
-        table, entries = clib.table(both), coding.tables(both)
+        for rows in [clib.rows_of(PRACTICE + DRAWN), *map(rows_with_odd, range(3))]:
+            self.check_encoded(rows)
+
+    def check_encoded(self, rows: list[list[int]]) -> None:
+        """By these entries, against the model."""
+        table, draw = clib.Table(rows), random.Random(8)
         for graph, sizes in GRAPHS.items():
+            entries = {(row, col): values for it, row, col, *values in rows if it == graph}
             for z, index in sorted(coding.SETS.items()):
                 with self.subTest(graph=graph, z=z):
                     octets, room = bytes(draw.choices([0, 1, 2], [4, 4, 1], k=sizes.information * z)), clib.Room(sizes.sent * z)
@@ -125,7 +145,7 @@ class Answers(unittest.TestCase):
                     if small:
                         self.assertTrue(room.is_unwritten())
                         continue
-                    word = encoder.codeword(entries[graph], sizes.information, index, z, [octet % 2 for octet in octets])
+                    word = encoder.codeword(entries, sizes.information, index, z, [octet % 2 for octet in octets])
                     word[: len(octets)] = octets
                     self.assertEqual(list(room.octets()), word[2 * z :])
 

@@ -76,3 +76,15 @@ class ByHand(unittest.TestCase):
             given = clib.settings(2048), 8, txs[:count], heard[:places]
             self.assertEqual(clib.call("nr_receive", TABLE, *given, found, open_places, room), 0)
             self.assertEqual((found.numbers(), open_places.numbers(), room.octets()), (outcomes, [left], block))
+
+    def test_received_of_code_blocks(self) -> None:
+        """Zeros of three code blocks and of ten at the rate 0.25, where K' is 2,704 and 3,840 and 2 Zc 576 and 768. At first each
+        code block has 1,920 bits, from position 2 Zc on. So 784 of K' are left, or 1,920. No row fixes one of them, since each row
+        that has one has a parity position too that is not known. Of 13,600 bits rows 10 and 11 are enough to fix the two columns
+        that are never sent."""
+        for a, c, few, left, many in [(8016, 3, 5760, 784, 40_800), (38_136, 10, 19_200, 1920, 136_000)]:
+            for g, wanted in [(few, (0, [left] * c, b"\xa5" * (a // 8))), (many, (1, [0] * c, bytes(a // 8)))]:
+                found, open_places, room = clib.Room(1, item=4), clib.Room(c, item=4), clib.Room(a // 8)
+                given = clib.settings(512), a, [clib.tx(g)], bytes(g)
+                self.assertEqual(clib.call("nr_receive", TABLE, *given, found, open_places, room), 0)
+                self.assertEqual((found.numbers()[0], open_places.numbers(), room.octets()), wanted)

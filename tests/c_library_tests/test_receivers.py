@@ -3,6 +3,7 @@ outcomes with those of one nr_receive. What is refused is tested too."""
 
 from __future__ import annotations
 
+import ctypes
 import random
 import struct
 import typing
@@ -117,8 +118,39 @@ class Case:
             self.turns.append((tx, bytes(heard)))
 
 
+# Transmissions of octet 01 over the practice table, and the last outcome with what is left then: of each G, the places that
+# are received, and the flipped ones of them. The first 24 bits leave 4 of 24 information bits, which the next four fix. A place
+# that is heard with both bits contradicts once all are fixed.
+FIRST = (24, range(24), ())
+RECEPTIONS: list[tuple[list[tuple[int, typing.Sequence[int], typing.Sequence[int]]], int, int]] = [
+    ([FIRST], 0, 4),
+    ([FIRST, (28, (), ())], 0, 4),
+    ([FIRST, (28, range(24, 28), ())], 1, 0),
+    ([FIRST, (28, range(4), (0,))], 0, 4),
+    ([FIRST, (28, range(28), (0,))], 2, 0),
+    ([FIRST, (24, range(24), (23,)), (28, range(24, 28), ())], 2, 0),
+]
+
+
 class Receivers(unittest.TestCase):
     """Rooms, of new receivers and of those that have received."""
+
+    def test_octet_01(self) -> None:
+        """A call of all transmissions, for one block and for two rows of it, and a room that goes on from each to the next."""
+        for receptions, outcome, left in RECEPTIONS:
+            txs, row, kept = [clib.tx(g) for g, *_ in receptions], b"", Kept(TABLE, clib.settings(2048), 8)
+            for tx, (g, heard, flipped) in zip(txs, receptions):
+                sent = clib.made(g, "nr_send", TABLE, clib.settings(2048), b"\1", tx)
+                places = bytes(bit ^ (m in flipped) if m in heard else 2 for m, bit in enumerate(sent))
+                row, (status, written) = row + places, kept.take(tx, places)
+            block = b"\1" if outcome == 1 else b"\xa5"
+            self.assertEqual((status, written[0].numbers()[0]), (0, outcome))
+            self.assertEqual((written[1].numbers(), written[2].octets()), ([left], block))
+            self.assertEqual(received(TABLE, clib.settings(2048), 8, txs, row), (outcome, [left], block))
+            rooms = clib.Room(2 * len(txs), item=4), clib.Room(2, item=4), clib.Room(2)
+            given = TABLE, clib.settings(2048), 8, txs, ctypes.c_size_t(2), 2 * row
+            self.assertEqual(clib.call("nr_receive_many", *given, *rooms), 0)
+            self.assertEqual((rooms[0].numbers()[len(txs) - 1 :: len(txs)], rooms[1].numbers()), ([outcome] * 2, [left] * 2))
 
     def test_by_hand(self) -> None:
         """Octet 01 over the practice table: Zc is 4, so that a codeword has 52 * 4 positions, and K' is 24. The room of a new
@@ -269,6 +301,25 @@ class Refusals(unittest.TestCase):
             self.refused(status, kept, tx, b"")
         for count in (0, 23, 25):
             self.refused(56, kept, clib.tx(24), bytes(count))
+
+    def test_not_heard(self) -> None:
+        """The block of 24 zeros is delivered, and again after an erased transmission; a one then contradicts. What is refused
+        between them is not received: for G = 2 three places and a single one, and redundancy version 4."""
+        kept = self.of(a=24)
+        for tx, heard, wanted in [
+            (clib.tx(320), bytes(320), (0, 1)),
+            (clib.tx(2), b"\1" * 3, 56),
+            (clib.tx(2), b"\1", 56),
+            (clib.tx(1, rv=4), b"\1", 50),
+            (clib.tx(320), b"\2" * 320, (0, 1)),
+            (clib.tx(1), b"\1", (0, 2)),
+        ]:
+            if isinstance(wanted, int):
+                self.refused(wanted, kept, tx, heard)
+                continue
+            status, (outcome, left, block) = kept.take(tx, heard)
+            self.assertEqual(((status, outcome.numbers()[0]), left.numbers()), (wanted, [0]))
+            self.assertEqual(block.octets(), bytes(3) if wanted == (0, 1) else b"\xa5" * 3)
 
     def test_entries(self) -> None:
         rows = clib.rows_of(PRACTICE)

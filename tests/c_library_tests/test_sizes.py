@@ -190,6 +190,11 @@ class Largest(unittest.TestCase):
         for given, sent in [(bits, made(count, "nr_interleave", qm, bits)), (166 * d, made(count, "nr_match", longest, d))]:
             self.assertTrue(all(sent[at::qm] == given[at * count // qm :][: count // qm] for at in range(qm)))
 
+    def test_selected(self) -> None:
+        """Of the longest code block, which has no fillers, more bits than its buffer: d round and round."""
+        d = bytes(random.Random(2).choices((0, 1), k=25_344))
+        self.assertEqual(made(60_000, "nr_select", clib.settings(2048), 8424, 0, d), (3 * d)[:60_000])
+
     def test_table(self) -> None:
         """Each entry that any table may have: 1,850, read from a text and coded by."""
         text = full_text()

@@ -80,6 +80,23 @@ ENTRIES += [(status, [[*first, *ZEROS], [*second, *ZEROS]]) for status, first, s
 # The practice table cut off after so many entries, of the core and of the further rows.
 ENTRIES += [(status, ROWS[:count]) for status, count in [(26, 28), (28, 29), (28, 103), (27, 104)]]
 
+
+
+def beginning(text: bytes) -> tuple[int, int]:
+    """The status of a beginning of the practice table, and the place of the fault: a last line without its eleven numbers, no
+    record, too few for the core, and a last row that lacks its own column or an entry."""
+    *lines, last = text.split(b"\n")
+    fields, record = last.split(b","), len(lines) + 1
+    if last and len(fields) < 11:
+        return (21, record) if lines else (22, 0)
+    if last and not fields[10]:
+        return 23, record
+    records = len(lines) + bool(last)
+    if records in (0, 105):
+        return (0, 0) if records else (29, 0)
+    return (26 if records < 29 else 27 if records % 2 == 0 else 28), 2
+
+
 # The blocks that a link is refused for: the status, the settings, and the number of bits.
 BLOCKS = [
     (40, SETTINGS, 0),
@@ -146,6 +163,13 @@ class Statuses(unittest.TestCase):
                 self.assertEqual(report.numbers(), [0, 0, place, 0])
                 for room in [0, 1, 105]:
                     self.refused(status, "nr_table_entries", text, clib.Room(room, item=22), clib.counter())
+
+    def test_beginnings(self) -> None:
+        """The practice table cut off before each of its octets."""
+        for at in range(len(PRACTICE)):
+            (status, place), report = beginning(PRACTICE[:at]), clib.struct(4)
+            self.assertEqual(clib.call("nr_table_check", PRACTICE[:at], report), status, at)
+            self.assertEqual(report.numbers(), [0, 0 if status else 105, place, 0], at)
 
     def test_entries(self) -> None:
         for status, rows in ENTRIES:

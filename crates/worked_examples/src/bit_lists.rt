@@ -34,46 +34,38 @@ pub(crate) fn has_octets(bits: &Bits, octets: &[u8]) -> Result<bool, AllocError>
     }
 }
 
+/// Whether a list is equal to its clone.
+pub(crate) fn is_cloned(bits: &Bits) -> Result<bool, AllocError> {
+    match bits.try_clone() {
+        Ok(copy) => Ok(copy == *bits),
+        Err(error) => Err(error),
+    }
+}
+
 /// Puts a bit at the end of a short list.
-fn push(bits: &mut Bits, bit: bool) -> Result<(), Fail> {
+fn push(bits: &mut Bits, bit: bool) -> Result<(), AllocError> {
     if bits.len() < 10_000 {
         bits.push(bit)?;
     }
     Ok(())
 }
 
-#[test]
-fn three_octets_are_24_bits(rt: HostRuntime) -> Result<(), Fail> {
-    let bits = bits_of(rt.alloc(), &[0x01, 0x10, 0x21])?;
-    assert!(rt; bits.len() == 24);
-    Ok(())
+// Eight bits of a list, from bit 4 on, are 11.
+fn has_11_from_bit_4(bits: &Bits) -> Result<bool, Fail> {
+    let eight = copied(bits, 4, 8)?;
+    Ok(has_octets(&eight, &[0x11])?)
 }
 
-#[test]
-fn octets_are_read_back(rt: HostRuntime) -> Result<(), Fail> {
-    let bits = bits_of(rt.alloc(), &[0x01, 0x10, 0x21])?;
-    assert!(rt; has_octets(&bits, &[0x01, 0x10, 0x21])?);
-    Ok(())
-}
-
-#[test]
-fn a_clone_is_equal(rt: HostRuntime) -> Result<(), Fail> {
-    let bits = bits_of(rt.alloc(), &[0x01, 0x10, 0x21])?;
-    assert!(rt; bits.try_clone()? == bits);
-    Ok(())
-}
-
-// Eight bits of three octets, from bit 4 on.
-fn eight_from_bit_4(alloc: Global) -> Result<Bits, Fail> {
-    let bits = bits_of(alloc, &[0x01, 0x10, 0x21])?;
-    copied(&bits, 4, 8)
-}
-
-#[test]
-fn eight_bits_from_bit_4_on_are_11(rt: HostRuntime) -> Result<(), Fail> {
-    let bits = eight_from_bit_4(rt.alloc())?;
-    assert!(rt; has_octets(&bits, &[0x11])?);
-    Ok(())
+// Whether three octets are 24 bits, are read back, are equal to their clone, and have 11 from bit 4 on.
+fn three_octets(alloc: Global) -> Result<[bool; 4], Fail> {
+    let octets = [0x01, 0x10, 0x21];
+    let bits = bits_of(alloc, &octets)?;
+    Ok([
+        bits.len() == 24,
+        has_octets(&bits, &octets)?,
+        is_cloned(&bits)?,
+        has_11_from_bit_4(&bits)?,
+    ])
 }
 
 // A one put in room, and a zero pushed.
@@ -84,23 +76,8 @@ fn one_and_zero(alloc: Global) -> Result<Bits, Fail> {
     Ok(bits)
 }
 
-// These, with a one after them.
-fn one_zero_and_one(alloc: Global) -> Result<Bits, Fail> {
-    let mut more = Bits::new(alloc);
-    push(&mut more, true)?;
-    let bits = one_and_zero(alloc)?;
-    joined(bits, &more)
-}
-
-#[test]
-fn ten_extended_by_one_is_101(rt: HostRuntime) -> Result<(), Fail> {
-    let bits = one_zero_and_one(rt.alloc())?;
-    assert!(rt; has_octets(&bits, &[0xa0])?);
-    Ok(())
-}
-
 // So many ones, at most 1000.
-fn ones(alloc: Global, count: u32) -> Result<Bits, Fail> {
+fn ones(alloc: Global, count: u32) -> Result<Bits, AllocError> {
     let mut bits = Bits::new(alloc);
     for _ in 0..count.min(1000) {
         push(&mut bits, true)?;
@@ -108,24 +85,42 @@ fn ones(alloc: Global, count: u32) -> Result<Bits, Fail> {
     Ok(bits)
 }
 
+// Whether a one and a zero, extended by a one, are 101.
+fn are_101(alloc: Global) -> Result<bool, Fail> {
+    let more = ones(alloc, 1)?;
+    let bits = joined(one_and_zero(alloc)?, &more)?;
+    Ok(has_octets(&bits, &[0xa0])?)
+}
+
+// Whether 64 ones from bit 1 on are eight octets.
+fn has_64_ones(bits: &Bits) -> Result<bool, Fail> {
+    let some = copied(bits, 1, 64)?;
+    Ok(has_octets(&some, &[0xff; 8])?)
+}
+
+// Whether a list that is cleared has nothing but the zero that is pushed then.
+fn is_cleared(bits: &mut Bits) -> Result<bool, AllocError> {
+    bits.clear();
+    push(bits, false)?;
+    Ok(bits.len() == 1 && has_octets(bits, &[0])?)
+}
+
 // Whether 65 ones have their octets, 64 of them theirs, and a zero in place of ones its own.
 fn ones_have_octets(alloc: Global) -> Result<[bool; 3], Fail> {
-    let mut bits = ones(alloc, 65)?;
     let nine = [0xff, 0xff, 0xff, 0xff, 0xff, 0xff, 0xff, 0xff, 0x80];
-    let are_nine = has_octets(&bits, &nine)?;
-    let are_eight = has_octets(&copied(&bits, 1, 64)?, &[0xff; 8])?;
-    bits.clear();
-    push(&mut bits, false)?;
+    let mut bits = ones(alloc, 65)?;
     Ok([
-        are_nine,
-        are_eight,
-        bits.len() == 1 && has_octets(&bits, &[0])?,
+        has_octets(&bits, &nine)?,
+        has_64_ones(&bits)?,
+        is_cleared(&mut bits)?,
     ])
 }
 
 // 65 ones are nine octets. `copy_range(1, 64)` of them are eight. After `clear` and one push nothing of the ones is left.
 #[test]
-fn sixty_five_ones_a_range_of_them_and_a_zero_in_their_place(rt: HostRuntime) -> Result<(), Fail> {
+fn lists_have_their_octets(rt: HostRuntime) -> Result<(), Fail> {
+    assert!(rt; three_octets(rt.alloc())? == [true; 4]);
+    assert!(rt; are_101(rt.alloc())?);
     assert!(rt; ones_have_octets(rt.alloc())? == [true; 3]);
     Ok(())
 }

@@ -49,22 +49,32 @@ fn summed(before: &Bits, src: &Bits, z: usize, p: usize, i: usize) -> bool {
     bit_of(before, i) ^ gained
 }
 
+// Whether a list has the sums of single bits.
+fn is_sum(acc: &Bits, before: &Bits, src: &Bits, z: usize, p: usize) -> bool {
+    for i in 0..acc.len() {
+        if bit_of(acc, i) != summed(before, src, z, p, i) {
+            return false;
+        }
+    }
+    true
+}
+
 // Whether a block, rotated and added to another, gives the sum of their single bits.
-fn adds_up(alloc: Global, size: u16, p: usize) -> Result<bool, Fail> {
+fn adds_to(size: u16, p: usize, src: &Bits, acc: &mut Bits) -> Result<bool, AllocError> {
     let z = usize::from(size);
-    let src = block(alloc, z, 3, 1)?;
-    let mut acc = block(alloc, z, 5, 2)?;
     let before = acc.try_clone()?;
     if !is_size(size) || p >= z || src.len() != z + 6 || acc.len() != z + 10 {
         return Ok(false);
     }
-    add_block(z, &mut acc, 5, &src, 3, p);
-    for i in 0..acc.len() {
-        if bit_of(&acc, i) != summed(&before, &src, z, p, i) {
-            return Ok(false);
-        }
-    }
-    Ok(true)
+    add_block(z, acc, 5, src, 3, p);
+    Ok(is_sum(acc, &before, src, z, p))
+}
+
+// The same of blocks of a size.
+fn adds_up(alloc: Global, size: u16, p: usize) -> Result<bool, Fail> {
+    let src = block(alloc, usize::from(size), 3, 1)?;
+    let mut acc = block(alloc, usize::from(size), 5, 2)?;
+    Ok(adds_to(size, p, &src, &mut acc)?)
 }
 
 // Whether a list of ones and a list of twos are as single bits are counted.
@@ -87,19 +97,45 @@ fn is_counted(
     true
 }
 
-// Whether a block is counted among others as its single bits are. Both lists have ones past the counted places.
-fn tallies(alloc: Global, size: u16, p: usize) -> Result<bool, Fail> {
+// Whether a block is counted in two lists as its single bits are.
+fn tallies_to(
+    size: u16,
+    p: usize,
+    src: &Bits,
+    ones: &mut Bits,
+    more: &mut Bits,
+) -> Result<bool, AllocError> {
     let z = usize::from(size);
-    let src = block(alloc, z, 3, 3)?;
-    let full = block(alloc, z, 6, 4)?;
-    if !is_size(size) || p >= z || src.len() != z + 6 || full.len() != z + 12 {
+    let ones_before = ones.try_clone()?;
+    let more_before = more.try_clone()?;
+    if !is_size(size)
+        || p >= z
+        || src.len() != z + 6
+        || ones.len() != z + 4
+        || more.len() != z + 6
+    {
+        return Ok(false);
+    }
+    tally_block(z, ones, more, src, 3, p);
+    Ok(is_counted((ones, more), (&ones_before, &more_before), src, z, p))
+}
+
+// The same of two parts of a list. Both have ones past the counted places.
+fn tallies_in(size: u16, p: usize, src: &Bits, full: &Bits) -> Result<bool, AllocError> {
+    let z = usize::from(size);
+    if full.len() != z + 12 {
         return Ok(false);
     }
     let mut ones = full.copy_range(6, z + 4)?;
     let mut more = full.copy_range(5, z + 6)?;
-    let before = (ones.try_clone()?, more.try_clone()?);
-    tally_block(z, &mut ones, &mut more, &src, 3, p);
-    Ok(is_counted((&ones, &more), (&before.0, &before.1), &src, z, p))
+    tallies_to(size, p, src, &mut ones, &mut more)
+}
+
+// The same of blocks of a size.
+fn tallies(alloc: Global, size: u16, p: usize) -> Result<bool, Fail> {
+    let src = block(alloc, usize::from(size), 3, 3)?;
+    let full = block(alloc, usize::from(size), 6, 4)?;
+    Ok(tallies_in(size, p, &src, &full)?)
 }
 
 // The first lifting size at which a sum or a count is not that of single bits. The rotations are by 0, by 1 and by all

@@ -2,13 +2,12 @@
 //! and otherwise the positions that peeling is stuck on. Then how often a peeler visits pairs of rows and positions, if each
 //! place is received in a transmission of its own.
 
-use crate::practice::{PLAIN, on_one_layer, practice};
-use crate::receptions::{
-    ALL, Arrival, End, First, HandedUp, NONE, Places, end_of_firsts, end_over,
-};
-use nr_blockdesk::{Settings, Tx};
+use crate::practice::{PLAIN, practice};
+use crate::receptions::{ALL, End, First, HandedUp, NONE, Places, end_of_firsts, end_over};
+use nr_blockdesk::Settings;
 use nr_ratematch::Mask;
 use std::alloc::{AllocError, Global};
+use std::slice::from_ref;
 use std::test::Fail;
 
 /// All of 320 places but those of columns 11, 12, 20, 30, 40 and 50.
@@ -20,25 +19,6 @@ pub(crate) const MOST: Places<'static> = &[
     (243, 305),
     (313, 319),
 ];
-
-const OF_ZEROS: &[&[First<'static>]] = &[
-    &[(320, NONE, NONE), (320, ALL, NONE)],
-    &[(1, ALL, NONE), (1, ALL, ALL)],
-    &[(320, ALL, NONE), (1, ALL, ALL)],
-    &[(320, ALL, &[(110, 110)])],
-    &[(320, MOST, NONE)],
-    &[(320, MOST, NONE), (320, &[(96, 96)], NONE)],
-];
-
-// 24 zeros: erased, and then sent whole; one position with both bits; sent whole, and then one more as the other bit.
-// Then a flipped parity bit; six columns erased, and then one position of them.
-#[test]
-fn zeros_are_certified(rt: HostRuntime) -> Result<(), Fail> {
-    for firsts in OF_ZEROS.iter().copied() {
-        assert!(rt; end_of_firsts(rt.alloc(), PLAIN, &[0; 3], firsts)?.accepted);
-    }
-    Ok(())
-}
 
 // The places at which the words of two octets differ.
 const FLIPS: Places<'static> = &[
@@ -69,46 +49,59 @@ const ONE_BIT: Settings = Settings {
     lbrm: Some(1),
 };
 
-const OF_AN_OCTET: &[(u8, Settings, &[First<'static>])] = &[
-    (0x01, PLAIN, &[]),
-    (0x01, PLAIN, &[(184, ALL, NONE)]),
-    (0x01, PLAIN, &[(24, ALL, NONE)]),
-    (0x01, PLAIN, &[(24, ALL, NONE), (28, &[(24, 27)], NONE)]),
-    (0x01, PLAIN, &[(6, &[(0, 0), (2, 2), (4, 5)], NONE)]),
-    (0x01, PLAIN, &[(184, ALL, FLIPS)]),
-    (0x01, PLAIN, &[(184, NONE, ALL)]),
-    (0x01, ONE_BIT, &[(4, ALL, NONE)]),
-    (0x80, PLAIN, &[(32, ALL, NONE)]),
+/// Octet 01 by 24 bits and then the last 4 of 28.
+const IN_TWO: &[First<'static>] = &[(24, ALL, NONE), (28, &[(24, 27)], NONE)];
+
+const CASES: &[(&[u8], Settings, &[First<'static>])] = &[
+    // 24 zeros: erased, and then sent whole; one position with both bits; sent whole, and then one more as the other bit.
+    // Then a flipped parity bit; six columns erased, and then one position of them.
+    (&[0; 3], PLAIN, &[(320, NONE, NONE), (320, ALL, NONE)]),
+    (&[0; 3], PLAIN, &[(1, ALL, NONE), (1, ALL, ALL)]),
+    (&[0; 3], PLAIN, &[(320, ALL, NONE), (1, ALL, ALL)]),
+    (&[0; 3], PLAIN, &[(320, ALL, &[(110, 110)])]),
+    (&[0; 3], PLAIN, &[(320, MOST, NONE)]),
+    (
+        &[0; 3],
+        PLAIN,
+        &[(320, MOST, NONE), (320, &[(96, 96)], NONE)],
+    ),
+    // Octet 01: nothing; all of the buffer; four positions left, and then told; two places of six erased. Then 22 flips to
+    // the word of another block; every place erased; a buffer of one bit. And a block whose first bit alone is a one.
+    (&[0x01], PLAIN, &[]),
+    (&[0x01], PLAIN, &[(184, ALL, NONE)]),
+    (&[0x01], PLAIN, &[(24, ALL, NONE)]),
+    (&[0x01], PLAIN, IN_TWO),
+    (&[0x01], PLAIN, &[(6, &[(0, 0), (2, 2), (4, 5)], NONE)]),
+    (&[0x01], PLAIN, &[(184, ALL, FLIPS)]),
+    (&[0x01], PLAIN, &[(184, NONE, ALL)]),
+    (&[0x01], ONE_BIT, &[(4, ALL, NONE)]),
+    (&[0x80], PLAIN, &[(32, ALL, NONE)]),
 ];
 
-// Octet 01: nothing; all of the buffer; four positions left, and then told; two places of six erased. Then 22 flips to
-// the word of another block; every place erased; a buffer of one bit. And a block whose first bit alone is a one.
 #[test]
-fn an_octet_is_certified(rt: HostRuntime) -> Result<(), Fail> {
-    for (octet, settings, firsts) in OF_AN_OCTET.iter().copied() {
-        assert!(rt; end_of_firsts(rt.alloc(), settings, &[octet], firsts)?.accepted);
+fn blocks_are_certified(rt: HostRuntime) -> Result<(), Fail> {
+    for (octets, settings, firsts) in CASES.iter().copied() {
+        assert!(rt; end_of_firsts(rt.alloc(), settings, octets, firsts)?.accepted);
     }
     Ok(())
 }
 
+const QUARTER: Settings = Settings {
+    rate2048: 512,
+    lbrm: None,
+};
+
 /// What comes of four bits of 3832 zeros at the rate 0.25.
 fn end_of_two_code_blocks(alloc: Global, mask: Mask, heard: Places<'_>) -> Result<End, Fail> {
     let table = practice(alloc, 0, 1, false)?;
-    let quarter = Settings {
-        rate2048: 512,
-        lbrm: None,
-    };
-    let tx = Tx {
-        mask,
-        ..on_one_layer(0, 4, 4)
-    };
-    let flipped = NONE;
+    let first = (4, heard, NONE);
     end_over(
         alloc,
         &table,
-        quarter,
+        QUARTER,
         &[0; 479],
-        &[Arrival { tx, heard, flipped }],
+        (4, mask),
+        from_ref(&first),
     )
 }
 
@@ -148,20 +141,16 @@ fn end_place_by_place(alloc: Global) -> Result<End, Fail> {
     end_of_firsts(alloc, PLAIN, &[0x01], &firsts)
 }
 
-// The table has 105 entries, so with four lanes 420 pairs.
+/// Whether each pair was visited once or twice. The table has 105 entries, so with four lanes 420 pairs.
+fn is_visited(end: End) -> bool {
+    420 <= end.touches && end.touches <= 840
+}
+
+// Octet 01 place by place, and in two parts.
 #[test]
 fn each_pair_is_visited_once_or_twice(rt: HostRuntime) -> Result<(), Fail> {
     let end = end_place_by_place(rt.alloc())?;
-    assert!(rt; end.told == HandedUp::Delivered(0x01) && end.accepted);
-    assert!(rt; 420 <= end.touches && end.touches <= 840);
-    Ok(())
-}
-
-// Octet 01 by 24 bits and then the last 4 of 28.
-#[test]
-fn a_block_in_two_parts_is_visited_840_times_at_most(rt: HostRuntime) -> Result<(), Fail> {
-    let firsts = [(24, ALL, NONE), (28, [(24, 27)].as_slice(), NONE)];
-    let end = end_of_firsts(rt.alloc(), PLAIN, &[0x01], &firsts)?;
-    assert!(rt; 420 <= end.touches && end.touches <= 840);
+    assert!(rt; end.told == HandedUp::Delivered(0x01) && end.accepted && is_visited(end));
+    assert!(rt; is_visited(end_of_firsts(rt.alloc(), PLAIN, &[0x01], IN_TWO)?));
     Ok(())
 }

@@ -47,18 +47,11 @@ pub(crate) fn word_of(
     }
 }
 
-/// The length of a new word of 24 bits, and whether it meets every row of the practice table.
-fn new_word(alloc: Global) -> Result<(usize, bool), Fail> {
+/// Whether a new word of 24 bits has 208 zeros, which meet every row of a table.
+fn is_new_word_met(alloc: Global, table: &Table) -> Result<bool, Fail> {
     let plan = plan(Graph::Two, 24)?;
-    let table = practice(alloc, 0, 1, true)?;
     let word = Word::new(alloc, &plan)?;
-    Ok((word.len(), is_met(&table, &plan, &word)))
-}
-
-#[test]
-fn the_208_zeros_of_a_new_word_meet_every_row(rt: HostRuntime) -> Result<(), Fail> {
-    assert!(rt; new_word(rt.alloc())? == (208, true));
-    Ok(())
+    Ok(word.len() == 208 && is_met(table, &plan, &word))
 }
 
 /// Whether a fault is written so.
@@ -111,25 +104,38 @@ fn idle_bits(table: &Table, plan: &Plan, word: &mut Word) -> (bool, u32) {
 }
 
 /// The same of the word of block 01.
-fn idle_bits_of_01(alloc: Global) -> Result<(bool, u32), Fail> {
-    let table = practice(alloc, 0, 1, false)?;
-    let mut word = encoded(alloc, &table, &[0x01, 0x10, 0x21])?;
-    Ok(idle_bits(&table, &plan(Graph::Two, 24)?, &mut word))
+fn idle_bits_of_01(alloc: Global, table: &Table) -> Result<(bool, u32), Fail> {
+    let plan = plan(Graph::Two, 24)?;
+    let mut word = encoded(alloc, table, &[0x01, 0x10, 0x21])?;
+    Ok(idle_bits(table, &plan, &mut word))
 }
 
-/// Whether the words of block 80 over two tables meet the first table's rows, and then the second's. The first parity
-/// column is rotated by another of its values in each.
-fn met_rows(alloc: Global) -> Result<[bool; 4], Fail> {
+/// Whether the word of block 80 over its own table meets that table's rows, and then another's.
+fn met_by(alloc: Global, own: &Table, other: &Table) -> Result<[bool; 2], Fail> {
     let plan = plan(Graph::Two, 24)?;
-    let (first, second) = (practice(alloc, 0, 1, true)?, practice(alloc, 1, 0, true)?);
-    let one = encoded(alloc, &first, &[0x80, 0x91, 0x88])?;
-    let other = encoded(alloc, &second, &[0x80, 0x91, 0x88])?;
+    let word = encoded(alloc, own, &[0x80, 0x91, 0x88])?;
+    Ok([is_met(own, &plan, &word), is_met(other, &plan, &word)])
+}
+
+/// Whether the words of block 80 over two tables each meet the rows of their own alone, and a new word the first one's.
+fn met_over(alloc: Global, first: &Table, second: &Table) -> Result<[bool; 3], Fail> {
     Ok([
-        is_met(&first, &plan, &one),
-        is_met(&first, &plan, &other),
-        is_met(&second, &plan, &one),
-        is_met(&second, &plan, &other),
+        met_by(alloc, first, second)? == [true, false],
+        met_by(alloc, second, first)? == [true, false],
+        is_new_word_met(alloc, first)?,
     ])
+}
+
+/// The same of this table and one whose first parity column is rotated by another of its values.
+fn met_over_first(alloc: Global, first: &Table) -> Result<[bool; 3], Fail> {
+    let second = practice(alloc, 1, 0, true)?;
+    met_over(alloc, first, &second)
+}
+
+/// The same of two tables.
+fn met_rows(alloc: Global) -> Result<[bool; 3], Fail> {
+    let first = practice(alloc, 0, 1, true)?;
+    met_over_first(alloc, &first)
 }
 
 /// Puts the ten information columns of block 01, the lowest bit first, and ones in every third place after them.
@@ -142,33 +148,50 @@ fn begin(word: &mut Word) {
     }
 }
 
-/// The octets of a word that is filled from its first K bits on.
-fn filled(alloc: Global) -> Result<[u8; 26], Fail> {
-    let table = practice(alloc, 0, 1, false)?;
+/// Fills a word of block 01 from its first K bits on.
+fn fill_01(table: &Table, plan: &Plan, word: &mut Word) {
+    begin(word);
+    if table.has(plan.graph) && word.len() == (plan.graph.cols() * plan.z) as usize {
+        fill(table, plan, word);
+    }
+}
+
+/// The octets of a word that is filled over a table.
+fn filled(alloc: Global, table: &Table) -> Result<[u8; 26], Fail> {
     let plan = plan(Graph::Two, 24)?;
     let mut word = Word::new(alloc, &plan)?;
-    begin(&mut word);
-    if table.has(plan.graph) && word.len() == (plan.graph.cols() * plan.z) as usize {
-        fill(&table, &plan, &mut word);
-    }
+    fill_01(table, &plan, &mut word);
     Ok(octets_of(&word))
 }
 
 /// Why 24 bits are not encoded in base graph 1 over a table of base graph 2.
-fn without_graph_1(alloc: Global) -> Result<Option<EncFault>, Fail> {
-    let table = practice(alloc, 0, 1, false)?;
+fn without_graph_1(alloc: Global, table: &Table) -> Result<Option<EncFault>, Fail> {
+    let plan = plan(Graph::One, 24)?;
     let bits = bits_of(alloc, &[0x01, 0x10, 0x21])?;
-    Ok(word_of(alloc, &table, &plan(Graph::One, 24)?, &bits).err())
+    Ok(word_of(alloc, table, &plan, &bits).err())
 }
 
-/// `meets` is false after any one of the 208 bits was turned. Over two tables the word of each meets the rows of its own
-/// alone. `fill` gives the word that `encode` gives, whatever was in its parity columns. `encode` with a plan of base
-/// graph 1: NoGraph.
+/// Whether words over a table are as they are to be over the practice table.
+fn are_right_over(alloc: Global, table: &Table) -> Result<[bool; 3], Fail> {
+    Ok([
+        idle_bits_of_01(alloc, table)? == (true, 0),
+        filled(alloc, table)? == WORD_01,
+        without_graph_1(alloc, table)? == Some(EncFault::NoGraph),
+    ])
+}
+
+/// Whether they are over the practice table.
+fn are_right(alloc: Global) -> Result<[bool; 3], Fail> {
+    let table = practice(alloc, 0, 1, false)?;
+    are_right_over(alloc, &table)
+}
+
+/// `meets` is false after any one of the 208 bits was turned. `fill` gives the word that `encode` gives, whatever was in its
+/// parity columns. `encode` with a plan of base graph 1: NoGraph. Over two tables the word of each meets the rows of its own
+/// alone. A new word meets every row.
 #[test]
 fn words_are_met_filled_and_refused(rt: HostRuntime) -> Result<(), Fail> {
-    assert!(rt; idle_bits_of_01(rt.alloc())? == (true, 0));
-    assert!(rt; met_rows(rt.alloc())? == [true, false, false, true]);
-    assert!(rt; filled(rt.alloc())? == WORD_01);
-    assert!(rt; without_graph_1(rt.alloc())? == Some(EncFault::NoGraph));
+    assert!(rt; are_right(rt.alloc())? == [true; 3]);
+    assert!(rt; met_rows(rt.alloc())? == [true; 3]);
     Ok(())
 }

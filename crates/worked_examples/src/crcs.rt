@@ -52,29 +52,37 @@ fn attached_code(alloc: Global, bits: &Bits) -> Result<Bits, Fail> {
     }
 }
 
-#[test]
-fn the_digits_as_a_code_block_are_followed_by_23ef52(rt: HostRuntime) -> Result<(), Fail> {
-    let code = attached_code(rt.alloc(), &bits_of(rt.alloc(), &DIGITS)?)?;
+// Whether the digits as a code block are followed by 23ef52.
+fn is_attached(alloc: Global) -> Result<bool, Fail> {
     let octets = [
         0x31, 0x32, 0x33, 0x34, 0x35, 0x36, 0x37, 0x38, 0x39, 0x23, 0xef, 0x52,
     ];
-    assert!(rt; has_octets(&code, &octets)?);
-    Ok(())
+    let code = attached_code(alloc, &bits_of(alloc, &DIGITS)?)?;
+    Ok(has_octets(&code, &octets)?)
 }
 
-// The CRC16 of the digits' 72 bits in a list that begins with three zeros; 0 of any other list.
+// Three zeros with the digits after them.
+fn after_three_zeros(alloc: Global) -> Result<Bits, Fail> {
+    let octet = bits_of(alloc, &[0])?;
+    let zeros = copied(&octet, 0, 3)?;
+    let digits = bits_of(alloc, &DIGITS)?;
+    joined(zeros, &digits)
+}
+
+// The CRC16 of the digits' 72 bits in that list; 0 of any other list.
 fn crc_after_three_zeros(alloc: Global) -> Result<u32, Fail> {
-    let zeros = copied(&bits_of(alloc, &[0])?, 0, 3)?;
-    let bits = joined(zeros, &bits_of(alloc, &DIGITS)?)?;
+    let bits = after_three_zeros(alloc)?;
     if bits.len() != 75 {
         return Ok(0);
     }
     Ok(crc_range(Poly::C16, &bits, 3, 72))
 }
 
-// `crc_range` of the digits after three zeros, so that no octet of them is at a multiple of eight.
+// `attach_code` of the digits, and `crc_range` of the digits after three zeros, so that no octet of them is at a multiple of
+// eight.
 #[test]
-fn the_digits_after_three_zeros_have_the_crc_31c3(rt: HostRuntime) -> Result<(), Fail> {
+fn the_digits_have_their_crcs(rt: HostRuntime) -> Result<(), Fail> {
+    assert!(rt; is_attached(rt.alloc())?);
     assert!(rt; crc_after_three_zeros(rt.alloc())? == 0x31c3);
     Ok(())
 }

@@ -13,23 +13,11 @@ fn read_table(alloc: Global) -> (Option<TableFault>, u32) {
     (fault, source.pulls())
 }
 
-// A table file has at most 4,194,304 octets.
-#[test]
-fn an_endless_table_is_too_long(rt: HostRuntime) {
-    assert!(rt; read_table(rt.alloc()) == (Some(TableFault::TooLong), 4_194_305));
-}
-
 /// Why settings without an end are refused, and after how many pulls.
 fn read_rates(alloc: Global) -> (Option<SettingsFault>, u32) {
     let mut source = Endless::new();
     let fault = read_settings(alloc, &mut source).err();
     (fault, source.pulls())
-}
-
-// Settings have at most 65,536 octets.
-#[test]
-fn endless_settings_are_too_long(rt: HostRuntime) {
-    assert!(rt; read_rates(rt.alloc()) == (Some(SettingsFault::TooLong), 65_537));
 }
 
 /// Why a source is refused that may have so many octets, and after how many pulls.
@@ -39,11 +27,12 @@ fn read_source(alloc: Global, limit: usize) -> (Option<ReadFault>, u32) {
     (fault, source.pulls())
 }
 
-// The call that reads the table, the settings and the schedule, with lower limits.
+// A table file has at most 4,194,304 octets, and settings 65,536. The call that reads both has lower limits here.
 #[test]
-fn an_endless_source_is_too_long(rt: HostRuntime) {
+fn endless_files_are_too_long(rt: HostRuntime) {
+    assert!(rt; read_table(rt.alloc()) == (Some(TableFault::TooLong), 4_194_305));
+    assert!(rt; read_rates(rt.alloc()) == (Some(SettingsFault::TooLong), 65_537));
     for (limit, pulls) in [(0, 1), (1, 2), (5, 6), (70_000, 70_001)] {
-        let said = read_source(rt.alloc(), limit);
-        assert!(rt; said == (Some(ReadFault::TooLong), pulls), "limit {limit}");
+        assert!(rt; read_source(rt.alloc(), limit) == (Some(ReadFault::TooLong), pulls));
     }
 }

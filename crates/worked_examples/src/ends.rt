@@ -28,6 +28,18 @@ pub(crate) enum End {
     Output,
 }
 
+/// A command over block 01 and a schedule, the time at which an end breaks, and what is to be written by then.
+#[derive(Clone, Copy)]
+pub(crate) struct Case<'a> {
+    pub(crate) command: Command,
+    pub(crate) schedule: &'a [u8],
+    pub(crate) breaks: (End, u32),
+    pub(crate) text: &'a [u8],
+}
+
+/// The blocks file.
+const BLOCKS: &[u8] = b"01\n";
+
 /// The settings of the highest code rate.
 const SETTINGS: &[u8] = b"rate2048 = 2048\n";
 
@@ -99,73 +111,89 @@ fn perform(
     }
 }
 
-/// How a command ended: what it returned, and how often it pulled the table, the settings, the blocks and the schedule.
-/// Then what it wrote.
-pub(crate) type Ended = (Result<(), RunFault>, [u32; 4], Tape);
+/// The practice table's file, which gives 64 octets a pull.
+fn table_source(alloc: Global, breaks: (End, u32)) -> Result<Counted, AllocError>
+    ensures { IfOk result (λ source. source.feed.failed < 2 ^ 32) }
+{
+    let text = practice_text(alloc)?;
+    source_of(alloc, text.as_bytes(), 64, End::Table, breaks)
+}
 
-/// How a command ends under these files and a schedule. The output takes one octet a put.
-fn ended_over_three(
+/// How a command ended: what it returned, and how often it pulled the table, the settings, the blocks and the schedule. Then
+/// whether it wrote what it was to write.
+pub(crate) type Ended = (Result<(), RunFault>, [u32; 4], bool);
+
+// Each of the following functions owns one file, because a proof grows with what a function owns at the same time.
+
+/// How a command ends over these files. The output takes one octet a put.
+fn ended_over_files(
     alloc: Global,
-    command: Command,
+    case: Case<'_>,
     table: &mut Counted,
     settings: &mut Counted,
     blocks: &mut Counted,
-    schedule: &[u8],
-    breaks: (End, u32),
+    schedule: &mut Counted,
+) -> Result<Ended, AllocError>
+    requires table { table.old.feed.failed < 2 ^ 32 }
+    requires settings { settings.old.feed.failed < 2 ^ 32 }
+    requires blocks { blocks.old.feed.failed < 2 ^ 32 }
+    requires schedule { schedule.old.feed.failed < 2 ^ 32 }
+{
+    let mut tape = Tape::new(alloc, ROOM, 1, breaks_at(End::Output, case.breaks))?;
+    let answer = perform(
+        alloc,
+        case.command,
+        table,
+        settings,
+        blocks,
+        schedule,
+        &mut tape,
+    );
+    let pulls = [table.pulls, settings.pulls, blocks.pulls, schedule.pulls];
+    Ok((answer, pulls, tape.bytes() == case.text))
+}
+
+/// How a command ends over these files and the schedule. The schedule gives one octet a pull, as the blocks file and the
+/// settings do.
+fn ended_over_three(
+    alloc: Global,
+    case: Case<'_>,
+    table: &mut Counted,
+    settings: &mut Counted,
+    blocks: &mut Counted,
 ) -> Result<Ended, AllocError>
     requires table { table.old.feed.failed < 2 ^ 32 }
     requires settings { settings.old.feed.failed < 2 ^ 32 }
     requires blocks { blocks.old.feed.failed < 2 ^ 32 }
 {
-    let mut schedule = source_of(alloc, schedule, 1, End::Schedule, breaks)?;
-    let mut tape = Tape::new(alloc, ROOM, 1, breaks_at(End::Output, breaks))?;
-    let answer = perform(
-        alloc,
-        command,
-        table,
-        settings,
-        blocks,
-        &mut schedule,
-        &mut tape,
-    );
-    let pulls = [table.pulls, settings.pulls, blocks.pulls, schedule.pulls];
-    Ok((answer, pulls, tape))
+    let mut schedule = source_of(alloc, case.schedule, 1, End::Schedule, case.breaks)?;
+    ended_over_files(alloc, case, table, settings, blocks, &mut schedule)
 }
 
-/// How a command ends under a table and the highest code rate. The files but the table give one octet a pull.
-fn ended_over_table(
+/// How a command ends over these files, the blocks file and the schedule.
+fn ended_over_two(
     alloc: Global,
-    command: Command,
+    case: Case<'_>,
     table: &mut Counted,
-    blocks: &[u8],
-    schedule: &[u8],
-    breaks: (End, u32),
+    settings: &mut Counted,
 ) -> Result<Ended, AllocError>
+    requires table { table.old.feed.failed < 2 ^ 32 }
+    requires settings { settings.old.feed.failed < 2 ^ 32 }
+{
+    let mut blocks = source_of(alloc, BLOCKS, 1, End::Blocks, case.breaks)?;
+    ended_over_three(alloc, case, table, settings, &mut blocks)
+}
+
+/// How a command ends over a table and the other files.
+fn ended_over_table(alloc: Global, case: Case<'_>, table: &mut Counted) -> Result<Ended, AllocError>
     requires { table.old.feed.failed < 2 ^ 32 }
 {
-    let mut settings = source_of(alloc, SETTINGS, 1, End::Settings, breaks)?;
-    let mut blocks = source_of(alloc, blocks, 1, End::Blocks, breaks)?;
-    ended_over_three(
-        alloc,
-        command,
-        table,
-        &mut settings,
-        &mut blocks,
-        schedule,
-        breaks,
-    )
+    let mut settings = source_of(alloc, SETTINGS, 1, End::Settings, case.breaks)?;
+    ended_over_two(alloc, case, table, &mut settings)
 }
 
-/// How a command ends under the practice table and the highest code rate, if this end breaks at this pull or put. The
-/// table gives 64 octets a pull, and the other files one; the output takes one octet a put.
-pub(crate) fn ended(
-    alloc: Global,
-    command: Command,
-    blocks: &[u8],
-    schedule: &[u8],
-    breaks: (End, u32),
-) -> Result<Ended, AllocError> {
-    let text = practice_text(alloc)?;
-    let mut table = source_of(alloc, text.as_bytes(), 64, End::Table, breaks)?;
-    ended_over_table(alloc, command, &mut table, blocks, schedule, breaks)
+/// How a command ends under the practice table and the highest code rate.
+pub(crate) fn ended(alloc: Global, case: Case<'_>) -> Result<Ended, AllocError> {
+    let mut table = table_source(alloc, case.breaks)?;
+    ended_over_table(alloc, case, &mut table)
 }

@@ -1,6 +1,6 @@
 //! Fix orders and stopping sets of peelers over a practice table, and what their checks say of others, by hand.
 
-use crate::peeling::{PART, Range, Shown, Told, WHOLE, is_order, is_stuck, marks_of, shown_over};
+use crate::peeling::{PART, Shown, Told, WHOLE, is_order, is_stuck, marks_of, shown_over};
 use crate::practice::practice;
 use nr_bitvec::Bits;
 use nr_graphpick::Graph;
@@ -55,34 +55,31 @@ fn is_stuck_on(
     Ok((is_it, is_stuck(table, plan, &shown.given, &set)))
 }
 
-/// What is stuck over the practice table after these positions, beside a set.
-fn stuck_after(alloc: Global, ranges: &[Range], set: Set<'_>) -> Result<(bool, bool), Fail> {
+/// What is stuck over a table after the first 24 bits, beside a set.
+fn stuck_over(alloc: Global, table: &Table, set: Set<'_>) -> Result<(bool, bool), Fail> {
     let plan = plan(Graph::Two, 24)?;
-    let table = practice(alloc, 0, 1, false)?;
-    let shown = shown_over(alloc, &table, &plan, Told::Ranges(ranges))?;
-    is_stuck_on(alloc, &table, &plan, &shown, set)
+    let shown = shown_over(alloc, table, &plan, Told::Ranges(PART))?;
+    is_stuck_on(alloc, table, &plan, &shown, set)
 }
 
-#[test]
-fn the_first_24_bits_leave_a_stopping_set(rt: HostRuntime) -> Result<(), Fail> {
-    assert!(rt; stuck_after(rt.alloc(), PART, (LEFT, NONE, None))? == (true, true));
-    Ok(())
-}
-
-/// An empty list, one out of order, one with a position past the last, and one with a filler.
-const OTHERS: &[Set<'static>] = &[
-    (&[], NONE, None),
-    (LEFT, 0, Some(4)),
-    (LEFT, NONE, Some(208)),
-    (&[1, 6, 12, 13, 21, 31, 41, 51], NONE, None),
+/// Sets, and whether they are stuck and stopping sets or neither. Those that are not: an empty list, one out of order, one with a
+/// position past the last, and one with a filler.
+const SETS: &[(Set<'static>, bool)] = &[
+    ((LEFT, NONE, None), true),
+    ((&[], NONE, None), false),
+    ((LEFT, 0, Some(4)), false),
+    ((LEFT, NONE, Some(208)), false),
+    ((&[1, 6, 12, 13, 21, 31, 41, 51], NONE, None), false),
 ];
 
-#[test]
-fn other_lists_are_no_stopping_sets(rt: HostRuntime) -> Result<(), Fail> {
-    for set in OTHERS.iter().copied() {
-        assert!(rt; stuck_after(rt.alloc(), PART, set)? == (false, false));
+/// Whether all sets are as they are to be.
+fn sets_are_right(alloc: Global, table: &Table) -> Result<bool, Fail> {
+    for (set, accepted) in SETS.iter().copied() {
+        if stuck_over(alloc, table, set)? != (accepted, accepted) {
+            return Ok(false);
+        }
     }
-    Ok(())
+    Ok(true)
 }
 
 /// A change of a list of steps: those that fix a position are left out, so many others stay, and the last one is repeated.
@@ -118,52 +115,58 @@ fn is_changed_order(
     Ok(is_order(table, plan, &shown.given, &changed)?)
 }
 
-/// Whether the changed steps are a fix order over the practice table, after all that is sent.
-fn is_order_after_all(alloc: Global, change: Change) -> Result<bool, Fail> {
+/// Whether the changed steps are a fix order over a table, after all that is sent.
+fn is_order_after_all(alloc: Global, table: &Table, change: Change) -> Result<bool, Fail> {
     let plan = plan(Graph::Two, 24)?;
-    let table = practice(alloc, 0, 1, false)?;
-    let shown = shown_over(alloc, &table, &plan, Told::Ranges(WHOLE))?;
-    is_changed_order(alloc, &table, &plan, &shown, change)
+    let shown = shown_over(alloc, table, &plan, Told::Ranges(WHOLE))?;
+    is_changed_order(alloc, table, &plan, &shown, change)
 }
 
-// The peeler's own steps, and with the last one repeated; without the step that fixes position 0; and no step.
-#[test]
-fn an_order_needs_each_first_step(rt: HostRuntime) -> Result<(), Fail> {
-    for (change, accepted) in [
-        ((208, NONE, false), true),
-        ((208, NONE, true), true),
-        ((0, NONE, true), false),
-        ((208, 0, false), false),
-    ] {
-        assert!(rt; is_order_after_all(rt.alloc(), change)? == accepted);
+/// The peeler's own steps, and with the last one repeated; without the step that fixes position 0; and no step.
+const CHANGES: &[(Change, bool)] = &[
+    ((208, NONE, false), true),
+    ((208, NONE, true), true),
+    ((0, NONE, true), false),
+    ((208, 0, false), false),
+];
+
+/// Whether the changed steps are fix orders as they are to be.
+fn orders_are_right(alloc: Global, table: &Table) -> Result<bool, Fail> {
+    for (change, accepted) in CHANGES.iter().copied() {
+        if is_order_after_all(alloc, table, change)? != accepted {
+            return Ok(false);
+        }
     }
-    Ok(())
+    Ok(true)
 }
 
-/// Whether one step is accepted over the practice table if every position was given.
-fn is_step(alloc: Global, row: u16, lane: u16, pos: u32) -> Result<bool, Fail> {
+/// Whether one step is accepted over a table if every position was given.
+fn is_step(alloc: Global, table: &Table, (row, lane, pos): (u16, u16, u32)) -> Result<bool, Fail> {
     let plan = plan(Graph::Two, 24)?;
-    let table = practice(alloc, 0, 1, false)?;
     let given = marks_of(alloc, &plan, &[(0, 208)])?;
     let step = Fix { row, lane, pos };
-    Ok(is_order(&table, &plan, &given, from_ref(&step))?)
+    Ok(is_order(table, &plan, &given, from_ref(&step))?)
 }
 
-// Row 0 has position 0 and not position 1; the last row is 41, the last lane 3 and the last position 207. Position 65,536
-// is 0 in 16 bits.
-#[test]
-fn steps_are_in_range_and_in_their_row(rt: HostRuntime) -> Result<(), Fail> {
-    for (row, lane, pos, accepted) in [
-        (0, 0, 0, true),
-        (0, 0, 1, false),
-        (42, 0, 0, false),
-        (0, 4, 0, false),
-        (0, 0, 208, false),
-        (0, 0, 65_536, false),
-    ] {
-        assert!(rt; is_step(rt.alloc(), row, lane, pos)? == accepted);
+/// Rows, lanes and positions. Row 0 has position 0 and not position 1; the last row is 41, the last lane 3 and the last position
+/// 207. Position 65,536 is 0 in 16 bits.
+const STEPS: &[((u16, u16, u32), bool)] = &[
+    ((0, 0, 0), true),
+    ((0, 0, 1), false),
+    ((42, 0, 0), false),
+    ((0, 4, 0), false),
+    ((0, 0, 208), false),
+    ((0, 0, 65_536), false),
+];
+
+/// Whether the steps are accepted as they are to be.
+fn steps_are_right(alloc: Global, table: &Table) -> Result<bool, Fail> {
+    for (step, accepted) in STEPS.iter().copied() {
+        if is_step(alloc, table, step)? != accepted {
+            return Ok(false);
+        }
     }
-    Ok(())
+    Ok(true)
 }
 
 /// The columns that stay unknown if all others are received. Column 0 is only in rows 0, 2, 10, 20, 30 and 40.
@@ -198,22 +201,43 @@ pub(crate) fn columns_of(
     Ok((shown.left, stuck, needless))
 }
 
-/// What is found about the columns if this many bits are coded over the practice table.
-fn columns_at(alloc: Global, bits: u32) -> Result<Columns, Fail> {
+/// What is found about the columns if this many bits are coded over a table.
+fn columns_at(alloc: Global, table: &Table, bits: u32) -> Result<Columns, Fail> {
     let plan = plan(Graph::Two, bits)?;
-    let table = practice(alloc, 0, 1, false)?;
-    let shown = shown_over(alloc, &table, &plan, Told::Without(COLUMNS))?;
-    columns_of(alloc, &table, &plan, &shown)
+    let shown = shown_over(alloc, table, &plan, Told::Without(COLUMNS))?;
+    columns_of(alloc, table, &plan, &shown)
 }
 
-// At lifting size 7, at which a block fills little of a word, and at 32.
-#[test]
-fn seven_columns_are_a_stopping_set(rt: HostRuntime) -> Result<(), Fail> {
+/// Whether seven columns are a stopping set at lifting size 7, at which a block fills little of a word, and at 32.
+fn columns_are_right(alloc: Global, table: &Table) -> Result<bool, Fail> {
     for (bits, z) in [(40, 7), (250, 32)] {
-        assert!(rt;
-            columns_at(rt.alloc(), bits)? == (z, (true, true), 0),
-            "lifting size {z}"
-        );
+        if columns_at(alloc, table, bits)? != (z, (true, true), 0) {
+            return Ok(false);
+        }
     }
+    Ok(true)
+}
+
+/// Whether all of these are right over a table.
+fn are_right_over(alloc: Global, table: &Table) -> Result<[bool; 4], Fail> {
+    Ok([
+        sets_are_right(alloc, table)?,
+        orders_are_right(alloc, table)?,
+        steps_are_right(alloc, table)?,
+        columns_are_right(alloc, table)?,
+    ])
+}
+
+/// Whether they are right over the practice table.
+fn are_right(alloc: Global) -> Result<[bool; 4], Fail> {
+    let table = practice(alloc, 0, 1, false)?;
+    are_right_over(alloc, &table)
+}
+
+// The first 24 bits leave a stopping set, and other lists are none. An order needs each first step. Steps are in range and in
+// their row. Seven columns are a stopping set.
+#[test]
+fn orders_and_sets_are_accepted_as_they_are_to_be(rt: HostRuntime) -> Result<(), Fail> {
+    assert!(rt; are_right(rt.alloc())? == [true; 4]);
     Ok(())
 }

@@ -3,9 +3,7 @@
 mod broken_files;
 mod broken_outputs;
 
-/// The blocks file and the schedules of the commands over broken ends.
-const BLOCKS: &[u8] = b"01\n";
-
+/// The schedules of the commands over broken ends.
 const SCHEDULE: &[u8] = b"block,rv,g,qm,nl,erase\n1,0,24,4,1,-\n";
 
 /// Two rounds of one HARQ process.

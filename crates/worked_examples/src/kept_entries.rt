@@ -78,8 +78,8 @@ fn item_of(alloc: Global, entries: &[KeptEntry], n: u32) -> Result<Option<Item>,
 #[test]
 fn a_table_is_kept_by_its_entries(rt: HostRuntime) -> Result<(), Fail> {
     let entries = kept_of_both(rt.alloc())?;
-    assert!(rt; entries.len() == 242);
-    assert!(rt; item_of(rt.alloc(), &entries, 156)? == item(Graph::Two, 2, 10, 1));
+    let found = item_of(rt.alloc(), &entries, 156);
+    assert!(rt; entries.len() == 242 && found == Ok(item(Graph::Two, 2, 10, 1)));
     Ok(())
 }
 
@@ -104,45 +104,30 @@ fn fault_of_two(
 // Base graph 1 has 46 rows and 68 columns, and base graph 2 has 42 and 52; there is no other. A range comes before an
 // order.
 #[test]
-fn entries_out_of_range(rt: HostRuntime) {
-    for (first, second, number) in [
-        ((2, 42, 0), (2, 42, 1), 1),
-        ((2, 0, 52), (2, 1, 0), 1),
-        ((1, 46, 0), (2, 0, 0), 1),
-        ((1, 0, 68), (1, 0, 68), 1),
-        ((2, 41, 51), (2, 42, 0), 2),
-        ((2, 41, 51), (2, 41, 52), 2),
-        ((1, 45, 67), (1, 46, 0), 2),
-        ((1, 45, 67), (1, 45, 68), 2),
-        ((1, 45, 67), (2, 0, 65535), 2),
-        ((2, 3, 5), (2, 2, 52), 2),
-        ((2, 0, 0), (0, 0, 0), 2),
-        ((2, 0, 0), (3, 0, 0), 2),
-        ((2, 0, 0), (65535, 0, 0), 2),
+fn entries_out_of_range_and_of_order(rt: HostRuntime) {
+    for (first, second, fault) in [
+        ((2, 42, 0), (2, 42, 1), EntriesFault::Range(1)),
+        ((2, 0, 52), (2, 1, 0), EntriesFault::Range(1)),
+        ((1, 46, 0), (2, 0, 0), EntriesFault::Range(1)),
+        ((1, 0, 68), (1, 0, 68), EntriesFault::Range(1)),
+        ((2, 41, 51), (2, 42, 0), EntriesFault::Range(2)),
+        ((2, 41, 51), (2, 41, 52), EntriesFault::Range(2)),
+        ((1, 45, 67), (1, 46, 0), EntriesFault::Range(2)),
+        ((1, 45, 67), (1, 45, 68), EntriesFault::Range(2)),
+        ((1, 45, 67), (2, 0, 65535), EntriesFault::Range(2)),
+        ((2, 3, 5), (2, 2, 52), EntriesFault::Range(2)),
+        ((2, 0, 0), (0, 0, 0), EntriesFault::Range(2)),
+        ((2, 0, 0), (3, 0, 0), EntriesFault::Range(2)),
+        ((2, 0, 0), (65535, 0, 0), EntriesFault::Range(2)),
+        ((2, 3, 5), (2, 3, 5), EntriesFault::Order(2)),
+        ((2, 3, 5), (2, 3, 4), EntriesFault::Order(2)),
+        ((2, 3, 5), (2, 2, 6), EntriesFault::Order(2)),
+        ((1, 1, 0), (1, 0, 67), EntriesFault::Order(2)),
+        ((2, 0, 0), (1, 0, 1), EntriesFault::Order(2)),
+        ((2, 41, 51), (1, 45, 67), EntriesFault::Order(2)),
     ] {
         let said = fault_of_two(rt.alloc(), first, second);
-        assert!(rt;
-            said == Some(EntriesFault::Range(number)),
-            "{first:?} {second:?}"
-        );
-    }
-}
-
-#[test]
-fn entries_out_of_order(rt: HostRuntime) {
-    for (first, second) in [
-        ((2, 3, 5), (2, 3, 5)),
-        ((2, 3, 5), (2, 3, 4)),
-        ((2, 3, 5), (2, 2, 6)),
-        ((1, 1, 0), (1, 0, 67)),
-        ((2, 0, 0), (1, 0, 1)),
-        ((2, 41, 51), (1, 45, 67)),
-    ] {
-        let said = fault_of_two(rt.alloc(), first, second);
-        assert!(rt;
-            said == Some(EntriesFault::Order(2)),
-            "{first:?} {second:?}"
-        );
+        assert!(rt; said == Some(fault), "{first:?} {second:?}");
     }
 }
 

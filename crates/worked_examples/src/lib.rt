@@ -46,8 +46,6 @@ mod practice;
 #[cfg(test)]
 mod processes;
 #[cfg(test)]
-mod receivers;
-#[cfg(test)]
 mod receptions;
 #[cfg(test)]
 mod refused_growths;

@@ -62,14 +62,6 @@ fn turned_lane(list: Bits, p: usize) -> Bits {
     list
 }
 
-// By hand: bit t of the sum is bit (t + 2) mod 5 of 10110. The ones beside the five bits stay.
-#[test]
-fn a_lane_of_10110_turned_by_2_is_11010(rt: HostRuntime) -> Result<(), Fail> {
-    let list = turned_lane(bits_of(rt.alloc(), &[0b1_10110_11])?, 2);
-    assert!(rt; list.octet(0) == 0b1_11010_11);
-    Ok(())
-}
-
 // Five bits rotated and added by the call that takes the size when it runs.
 fn turned_block(alloc: Global, src: &Bits, p: usize) -> Result<Bits, Fail> {
     let mut acc = bits_of(alloc, &[0b1_00000_11])?;
@@ -79,11 +71,11 @@ fn turned_block(alloc: Global, src: &Bits, p: usize) -> Result<Bits, Fail> {
     Ok(acc)
 }
 
-#[test]
-fn a_block_of_10110_turned_by_2_is_11010(rt: HostRuntime) -> Result<(), Fail> {
-    let src = bits_of(rt.alloc(), &[0b1_10110_11])?;
-    assert!(rt; turned_block(rt.alloc(), &src, 2)?.octet(0) == 0b1_11010_11);
-    Ok(())
+// An octet in which five bits are rotated by 2, as a block and as a lane.
+fn turned_by_2(alloc: Global) -> Result<[u8; 2], Fail> {
+    let src = bits_of(alloc, &[0b1_10110_11])?;
+    let block = turned_block(alloc, &src, 2)?.octet(0);
+    Ok([block, turned_lane(src, 2).octet(0)])
 }
 
 // 72 bits, of which the last is a one, rotated.
@@ -119,10 +111,12 @@ fn is_met_twice(alloc: Global) -> Result<bool, Fail> {
     Ok(has_octets(&out, &[0b10110_000, 0b10110_000])?)
 }
 
-// A lane of 72 bits with bit 71 alone, rotated by 7, 8 and 71: by hand, the one comes to place 71 - p. `tally` twice with the
-// same lane: the first time nothing is counted yet, and the second time each one is.
+// Bit t of 10110 turned by 2 is bit (t + 2) mod 5; the ones beside the five bits stay. A lane of 72 bits with bit 71 alone,
+// rotated by 7, 8 and 71: by hand, the one comes to place 71 - p. `tally` twice with the same lane: the first time nothing is
+// counted yet, and the second time each one is.
 #[test]
-fn place_71_of_72_is_turned_and_a_lane_is_tallied_twice(rt: HostRuntime) -> Result<(), Fail> {
+fn lanes_are_turned_and_tallied(rt: HostRuntime) -> Result<(), Fail> {
+    assert!(rt; turned_by_2(rt.alloc())? == [0b1_11010_11; 2]);
     for (p, want) in [
         (7, [0, 0, 0, 0, 0, 0, 0, 0, 0x80]),
         (8, [0, 0, 0, 0, 0, 0, 0, 1, 0]),

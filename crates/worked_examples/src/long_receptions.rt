@@ -1,10 +1,10 @@
-//! Transport blocks of three and of ten code blocks, received place by place by a receiver and by a process. How often the
-//! peeler of a process has visited pairs of a row and a position.
+//! Transport blocks of three and of ten code blocks, received place by place by a process; `nr_receive` receives them in
+//! `tests/c_library_tests/test_by_hand.py`. How often the peeler of a process has visited pairs of a row and a position.
 
-use crate::practice::{PLAIN, on_one_layer, practice};
+use crate::practice::{PLAIN, practice};
 use crate::processes::{Answer, begins, takes};
-use crate::receptions::{HandedUp, left_of, receiver_of, take};
-use nr_blockdesk::{DeskFault, Heard, Processes, Receiver, Settings};
+use crate::receptions::{HandedUp, left_of};
+use nr_blockdesk::{Heard, Processes, Settings};
 use nr_shifttable::Table;
 use std::alloc::{AllocError, Global};
 use std::test::Fail;
@@ -25,48 +25,6 @@ const TEN: u32 = 38_136;
 /// So many zeros.
 fn zeros(alloc: Global, count: u32) -> Result<Vec<Heard>, AllocError> {
     vec![in alloc; Heard::Zero; count as usize]
-}
-
-/// What is answered to a transmission, and how many positions below K' of the first code block are left then.
-type Received = (Result<HandedUp, DeskFault>, u32);
-
-/// What a receiver answers to so many zeros.
-fn receives(
-    alloc: Global,
-    receiver: &mut Receiver<'_>,
-    count: u32,
-) -> Result<Received, AllocError> {
-    let places = zeros(alloc, count)?;
-    let answer = take(receiver, &on_one_layer(0, count, 1), &places);
-    Ok((answer, left_of(receiver).0))
-}
-
-/// What a new receiver of a block of `a` bits answers to them.
-fn received_over(alloc: Global, table: &Table, a: u32, count: u32) -> Result<Received, Fail> {
-    match receiver_of(alloc, table, QUARTER, a) {
-        Ok(mut receiver) => Ok(receives(alloc, &mut receiver, count)?),
-        Err(fault) => Err(fault.into()),
-    }
-}
-
-/// What it answers over the practice table.
-fn received(alloc: Global, a: u32, count: u32) -> Result<Received, Fail> {
-    let table = practice(alloc, 0, 1, false)?;
-    received_over(alloc, &table, a, count)
-}
-
-// `Receiver::take` of three code blocks, with G = 5,760 and 40,800, by hand. Of 5,760 bits each code block has 1,920, from
-// position 2 Zc = 576 on. So of K' = 2,704 positions 784 are left. No row fixes one of them, since each row that has one
-// has a parity position too that is not known. Of 40,800 bits each code block has 13,600 of the 14,224 in its buffer.
-// Rows 10 and 11 are enough to fix the two columns that are never sent. Of ten code blocks each has 1,920 bits too, from
-// position 768 on. So of K' = 3,840 positions 1,920 are left. Then it has 13,600 of the 19,200 in its buffer.
-#[test]
-fn code_blocks_are_received(rt: HostRuntime) -> Result<(), Fail> {
-    for (a, few, left, many) in [(THREE, 5760, 784, 40_800), (TEN, 19_200, 1920, 136_000)] {
-        assert!(rt; received(rt.alloc(), a, few)? == (Ok(HandedUp::Open), left));
-        assert!(rt; received(rt.alloc(), a, many)? == (Ok(HandedUp::Delivered(0)), 0));
-    }
-    Ok(())
 }
 
 /// What process 0 answers to so many zeros.
@@ -123,7 +81,11 @@ fn process_received(alloc: Global, a: u32, counts: &[u32]) -> Result<(Answer, Op
     Ok((answer, state.map(|(left, _)| left)))
 }
 
-// `Processes::begin` and `take` with three and with ten code blocks and G over 1,000: the same as by a receiver.
+// `Processes::begin` and `take` of three code blocks, with G = 5,760 and 40,800, by hand. Of 5,760 bits each code block has
+// 1,920, from position 2 Zc = 576 on. So of K' = 2,704 positions 784 are left. No row fixes one of them, since each row that has
+// one has a parity position too that is not known. Of 40,800 bits each code block has 13,600 of the 14,224 in its buffer. Rows 10
+// and 11 are enough to fix the two columns that are never sent. Of ten code blocks each has 1,920 bits too, from position 768 on.
+// So of K' = 3,840 positions 1,920 are left. Then it has 13,600 of the 19,200 in its buffer.
 #[test]
 fn a_process_receives_code_blocks(rt: HostRuntime) -> Result<(), Fail> {
     let delivered = (Ok(Some(HandedUp::Delivered(0))), Some(0));

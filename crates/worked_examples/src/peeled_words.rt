@@ -1,8 +1,8 @@
 //! What shows a peeler's results beside the checks. The words are of made-up tables of both base graphs, at sizes of
 //! each set. A part of each was received, position by position or many positions at a time.
 
-use crate::peeling::{is_order, is_stuck, learn, learn_all, new_peeler, size_of};
-use crate::practice::{made_up, table_of};
+use crate::peeling::{Shown, Told, is_order, is_stuck, learn, learn_all, shown_over};
+use crate::practice::made_up_table;
 use nr_bitvec::Bits;
 use nr_graphpick::Graph;
 use nr_peel::Peeler;
@@ -55,7 +55,7 @@ fn hear_at_a_time(peeler: &mut Peeler<'_>, marks: &Bits) -> Result<(), AllocErro
 
 /// Gives positions of the word of zeros, each with the chance `share` of 256. They go one after another, or first half
 /// of them at a time and then all of them.
-fn hear(
+pub(crate) fn hear_drawn(
     alloc: Global,
     peeler: &mut Peeler<'_>,
     size: u32,
@@ -86,26 +86,22 @@ pub(crate) fn is_shown(
     }
 }
 
+/// Whether the checks accept it by what a peeler showed.
+fn is_accepted(table: &Table, plan: &Plan, shown: &Shown) -> Result<bool, AllocError> {
+    if shown.left == 0 {
+        is_order(table, plan, &shown.given, &shown.order)
+    } else {
+        Ok(is_stuck(table, plan, &shown.given, &shown.stuck))
+    }
+}
+
 /// Whether no pair of a row and a position was visited more than twice.
-fn is_bounded(table: &Table, plan: &Plan, peeler: &Peeler<'_>) -> bool {
+fn is_bounded(table: &Table, plan: &Plan, shown: &Shown) -> bool {
     let pairs = u64::from(table.entries(plan.graph)).saturating_mul(u64::from(plan.z));
-    peeler.touches() <= pairs.saturating_mul(2)
+    shown.touches <= pairs.saturating_mul(2)
 }
 
-/// Gives a peeler a part of a word: whether it comes out whole, or none if something disagrees.
-fn peels(
-    alloc: Global,
-    table: &Table,
-    plan: &Plan,
-    peeler: &mut Peeler<'_>,
-    (share, each): (u64, bool),
-) -> Result<Option<bool>, Fail> {
-    hear(alloc, peeler, size_of(plan), share, each)?;
-    let is_right = is_shown(table, plan, peeler)? && is_bounded(table, plan, peeler);
-    Ok(is_right.then_some(peeler.left() == 0))
-}
-
-/// Gives a new peeler a part of a word.
+/// Gives a new peeler a part of a word: whether it comes out whole, or none if something disagrees.
 fn peeled(
     alloc: Global,
     table: &Table,
@@ -113,10 +109,9 @@ fn peeled(
     share: u64,
     each: bool,
 ) -> Result<Option<bool>, Fail> {
-    match new_peeler(alloc, table, plan) {
-        Ok(mut peeler) => peels(alloc, table, plan, &mut peeler, (share, each)),
-        Err(fault) => Err(fault.into()),
-    }
+    let shown = shown_over(alloc, table, plan, Told::Drawn(share, each))?;
+    let is_right = is_accepted(table, plan, &shown)? && is_bounded(table, plan, &shown);
+    Ok(is_right.then_some(shown.left == 0))
 }
 
 /// Peels eleven words of which ever more was received: how many came out whole, how many didn't, and how many
@@ -134,77 +129,78 @@ fn count(alloc: Global, table: &Table, plan: &Plan, each: bool) -> Result<[u32; 
     Ok(counts)
 }
 
-/// A made-up table of a base graph.
-fn made_up_table(alloc: Global, graph: Graph) -> Result<Table, Fail> {
-    let cells = made_up(alloc, graph, 2)?;
-    table_of(alloc, &cells)
+/// Whether some words come out whole over a table, some don't, and nothing disagrees.
+fn agrees_over(alloc: Global, table: &Table, plan: &Plan, each: bool) -> Result<bool, Fail> {
+    let [whole, stuck, other] = count(alloc, table, plan, each)?;
+    Ok(whole > 0 && stuck > 0 && other == 0)
 }
 
-/// The lifting size of so many bits, and whether the checks accept what shows all their words. Some of them are to
-/// be whole, and some not.
+/// The lifting size of so many bits, and whether the checks accept what shows all their words.
 fn agrees(alloc: Global, graph: Graph, bits: u32, each: bool) -> Result<(u32, bool), Fail> {
     let plan = plan(graph, bits)?;
-    let table = made_up_table(alloc, graph)?;
-    let [whole, stuck, other] = count(alloc, &table, &plan, each)?;
-    Ok((plan.z, whole > 0 && stuck > 0 && other == 0))
+    let table = made_up_table(alloc, graph, 2)?;
+    Ok((plan.z, agrees_over(alloc, &table, &plan, each)?))
 }
 
 // Two small sizes position by position. Then many positions at a time: sizes of all eight sets, and the smallest ones.
-#[test]
-fn graph_1_is_peeled_as_the_checks_say(rt: HostRuntime) -> Result<(), Fail> {
-    for (bits, z, each) in [
-        (40, 2, true),
-        (650, 30, true),
-        (390, 18, false),
-        (430, 20, false),
-        (700, 32, false),
-        (8440, 384, false),
-        (7030, 320, false),
-        (1230, 56, false),
-        (6330, 288, false),
-        (60, 3, false),
-        (80, 4, false),
-        (100, 5, false),
-        (120, 6, false),
-        (140, 7, false),
-        (160, 8, false),
-        (180, 9, false),
-        (200, 10, false),
-        (240, 11, false),
-        (250, 12, false),
-        (270, 13, false),
-        (300, 14, false),
-        (4570, 208, false),
-        (650, 30, false),
-    ] {
-        assert!(rt;
-            agrees(rt.alloc(), Graph::One, bits, each)? == (z, true),
-            "{bits} bits"
-        );
+const OF_GRAPH_1: &[(u32, u32, bool)] = &[
+    (40, 2, true),
+    (650, 30, true),
+    (390, 18, false),
+    (430, 20, false),
+    (700, 32, false),
+    (8440, 384, false),
+    (7030, 320, false),
+    (1230, 56, false),
+    (6330, 288, false),
+    (60, 3, false),
+    (80, 4, false),
+    (100, 5, false),
+    (120, 6, false),
+    (140, 7, false),
+    (160, 8, false),
+    (180, 9, false),
+    (200, 10, false),
+    (240, 11, false),
+    (250, 12, false),
+    (270, 13, false),
+    (300, 14, false),
+    (4570, 208, false),
+    (650, 30, false),
+];
+
+const OF_GRAPH_2: &[(u32, u32, bool)] = &[
+    (40, 7, true),
+    (2390, 240, true),
+    (100, 18, false),
+    (115, 20, false),
+    (1275, 128, false),
+    (3830, 384, false),
+    (790, 80, false),
+    (40, 7, false),
+    (1435, 144, false),
+    (1750, 176, false),
+    (150, 26, false),
+    (2390, 240, false),
+];
+
+/// The first number of bits whose words do not come out as they are to, or whose lifting size is another.
+fn first_other(
+    alloc: Global,
+    graph: Graph,
+    list: &[(u32, u32, bool)],
+) -> Result<Option<u32>, Fail> {
+    for (bits, z, each) in list.iter().copied() {
+        if agrees(alloc, graph, bits, each)? != (z, true) {
+            return Ok(Some(bits));
+        }
     }
-    Ok(())
+    Ok(None)
 }
 
 #[test]
-fn graph_2_is_peeled_as_the_checks_say(rt: HostRuntime) -> Result<(), Fail> {
-    for (bits, z, each) in [
-        (40, 7, true),
-        (2390, 240, true),
-        (100, 18, false),
-        (115, 20, false),
-        (1275, 128, false),
-        (3830, 384, false),
-        (790, 80, false),
-        (40, 7, false),
-        (1435, 144, false),
-        (1750, 176, false),
-        (150, 26, false),
-        (2390, 240, false),
-    ] {
-        assert!(rt;
-            agrees(rt.alloc(), Graph::Two, bits, each)? == (z, true),
-            "{bits} bits"
-        );
-    }
+fn words_are_peeled_as_the_checks_say(rt: HostRuntime) -> Result<(), Fail> {
+    assert!(rt; first_other(rt.alloc(), Graph::One, OF_GRAPH_1)? == None);
+    assert!(rt; first_other(rt.alloc(), Graph::Two, OF_GRAPH_2)? == None);
     Ok(())
 }

@@ -4,6 +4,7 @@ ghost use Rattle.std.specs.Prelude.{◌≡◌, ◌*◌};
 ghost use Rattle.nr_graphpick.specs.Graph.{cols_of};
 
 use crate::codewords::WORD_01;
+use crate::peeled_words::hear_drawn;
 use crate::practice::practice;
 use nr_bitvec::{Bits, Marks};
 use nr_graphpick::Graph;
@@ -137,6 +138,8 @@ pub(crate) enum Told<'a> {
     Ranges(&'a [Range]),
     /// All but these columns of the word of zeros, one after another.
     Without(&'a [u32]),
+    /// Drawn positions of the word of zeros, each with this chance of 256, one after another or many at a time.
+    Drawn(u64, bool),
 }
 
 /// What a peeler knows: how many positions below K' are left, which positions are known, and the bits of these.
@@ -163,6 +166,7 @@ fn knows(peeler: &Peeler<'_>) -> Knows {
 #[derive(Drop)]
 pub(crate) struct Shown {
     pub(crate) left: u32,
+    pub(crate) touches: u64,
     knows: Knows,
     pub(crate) given: Bits,
     pub(crate) order: Vec<Fix>,
@@ -173,6 +177,7 @@ pub(crate) struct Shown {
 pub(crate) fn show(alloc: Global, peeler: &Peeler<'_>) -> Result<Shown, AllocError> {
     Ok(Shown {
         left: peeler.left(),
+        touches: peeler.touches(),
         knows: knows(peeler),
         given: peeler.given().try_clone()?,
         order: Vec::from_slice(alloc, peeler.order())?,
@@ -186,12 +191,24 @@ fn shown_after(
     peeler: &mut Peeler<'_>,
     plan: &Plan,
     told: Told<'_>,
-) -> Result<Shown, Fail> {
+) -> Result<Shown, AllocError> {
     match told {
         Told::Ranges(ranges) => hear(alloc, peeler, plan, &WORD_01, ranges)?,
         Told::Without(columns) => hear_without(peeler, plan, columns),
+        Told::Drawn(share, each) => hear_drawn(alloc, peeler, size_of(plan), share, each)?,
     }
-    Ok(show(alloc, peeler)?)
+    show(alloc, peeler)
+}
+
+/// The same of a peeler that is not used after that.
+fn shown_at_last(
+    alloc: Global,
+    peeler: Peeler<'_>,
+    plan: &Plan,
+    told: Told<'_>,
+) -> Result<Shown, Fail> {
+    let mut peeler = peeler;
+    Ok(shown_after(alloc, &mut peeler, plan, told)?)
 }
 
 /// What a new peeler shows after it was given positions.
@@ -202,28 +219,22 @@ pub(crate) fn shown_over(
     told: Told<'_>,
 ) -> Result<Shown, Fail> {
     match new_peeler(alloc, table, plan) {
-        Ok(mut peeler) => shown_after(alloc, &mut peeler, plan, told),
+        Ok(peeler) => shown_at_last(alloc, peeler, plan, told),
         Err(fault) => Err(fault.into()),
     }
 }
 
-/// What a peeler over the practice table knows that was given these positions of the word.
-fn knows_after(alloc: Global, ranges: &[Range]) -> Result<Knows, Fail> {
+/// What a peeler over a table knows that was given these positions of the word.
+fn knows_over(alloc: Global, table: &Table, ranges: &[Range]) -> Result<Knows, Fail> {
     let plan = plan(Graph::Two, 24)?;
-    let table = practice(alloc, 0, 1, false)?;
-    let shown = shown_over(alloc, &table, &plan, Told::Ranges(ranges))?;
+    let shown = shown_over(alloc, table, &plan, Told::Ranges(ranges))?;
     Ok(shown.knows)
 }
 
-// The fillers are columns 6 to 9, and each tenth column after them is a copy of one.
-#[test]
-fn a_new_peeler_knows_fillers_and_their_copies(rt: HostRuntime) -> Result<(), Fail> {
-    let mut places = [0; 26];
-    for octet in [3, 4, 8, 9, 13, 14, 18, 19, 23, 24] {
-        places[octet] = 0xff;
-    }
-    assert!(rt; knows_after(rt.alloc(), &[])? == (24, places, [0; 26]));
-    Ok(())
+/// What it knows over the practice table.
+fn knows_after(alloc: Global, ranges: &[Range]) -> Result<Knows, Fail> {
+    let table = practice(alloc, 0, 1, false)?;
+    knows_over(alloc, &table, ranges)
 }
 
 /// Columns 2 to 5, 10 and 11.
@@ -232,22 +243,35 @@ pub(crate) const PART: &[Range] = &[(8, 24), (40, 48)];
 /// And then all that is sent after them.
 pub(crate) const WHOLE: &[Range] = &[(8, 24), (40, 48), (48, 208)];
 
-// Column 0 is fixed by its copies. Column 1 is in rows 1, 11, 21, 31 and 41, each of which has another column that
-// was not received. So columns 1, 12, 13, 21, 31, 41 and 51 are left.
-#[test]
-fn the_first_24_bits_leave_7_columns(rt: HostRuntime) -> Result<(), Fail> {
-    let mut places = [0xff; 26];
-    let mut bits = WORD_01;
-    for octet in [0, 6, 10, 15, 20, 25] {
-        places[octet] = if octet == 6 { 0 } else { 0xf0 };
-        bits[octet] = 0;
-    }
-    assert!(rt; knows_after(rt.alloc(), PART)? == (4, places, bits));
-    Ok(())
-}
+/// The fillers are columns 6 to 9, and each tenth column after them is a copy of one.
+const FILLERS: Knows = (
+    24,
+    [
+        0x00, 0x00, 0x00, 0xff, 0xff, 0x00, 0x00, 0x00, 0xff, 0xff, 0x00, 0x00, 0x00, 0xff, 0xff,
+        0x00, 0x00, 0x00, 0xff, 0xff, 0x00, 0x00, 0x00, 0xff, 0xff, 0x00,
+    ],
+    [0; 26],
+);
 
+/// Column 0 is fixed by its copies. Column 1 is in rows 1, 11, 21, 31 and 41, each of which has another column that was not
+/// received. So columns 1, 12, 13, 21, 31, 41 and 51 are left.
+const SEVEN_LEFT: Knows = (
+    4,
+    [
+        0xf0, 0xff, 0xff, 0xff, 0xff, 0xff, 0x00, 0xff, 0xff, 0xff, 0xf0, 0xff, 0xff, 0xff, 0xff,
+        0xf0, 0xff, 0xff, 0xff, 0xff, 0xf0, 0xff, 0xff, 0xff, 0xff, 0xf0,
+    ],
+    [
+        0x00, 0x10, 0x21, 0x00, 0x00, 0x03, 0x00, 0x22, 0x00, 0x00, 0x00, 0x10, 0x88, 0x00, 0x00,
+        0x00, 0x40, 0x22, 0x00, 0x00, 0x00, 0x10, 0x88, 0x00, 0x00, 0x00,
+    ],
+);
+
+// A new peeler; the first 24 bits; and all that is sent, which fixes the word.
 #[test]
-fn all_that_is_sent_fixes_the_word(rt: HostRuntime) -> Result<(), Fail> {
+fn a_peeler_knows_what_follows(rt: HostRuntime) -> Result<(), Fail> {
+    assert!(rt; knows_after(rt.alloc(), &[])? == FILLERS);
+    assert!(rt; knows_after(rt.alloc(), PART)? == SEVEN_LEFT);
     assert!(rt; knows_after(rt.alloc(), WHOLE)? == (0, [0xff; 26], WORD_01));
     Ok(())
 }

@@ -19,11 +19,11 @@ pub(crate) const PLAIN: Settings = Settings {
 
 /// An entry of a table that a test makes.
 #[derive(Clone, Copy)]
-pub(crate) struct Cell {
-    pub(crate) graph: Graph,
-    pub(crate) row: u32,
-    pub(crate) col: u32,
-    pub(crate) values: [u32; 8],
+struct Cell {
+    graph: Graph,
+    row: u32,
+    col: u32,
+    values: [u32; 8],
 }
 
 /// Puts an entry at the end of a table's text. To write to a String fails only if memory runs out.
@@ -45,7 +45,7 @@ fn text_of(alloc: Global, cells: &[Cell]) -> Result<String, AllocError> {
 }
 
 /// The table of these entries.
-pub(crate) fn table_of(alloc: Global, cells: &[Cell]) -> Result<Table, Fail> {
+fn table_of(alloc: Global, cells: &[Cell]) -> Result<Table, Fail> {
     let mut feed = Feed::new(text_of(alloc, cells)?.into_bytes(), 4096, 0);
     Ok(Table::read(alloc, &mut feed)?)
 }
@@ -207,7 +207,7 @@ fn made_up_values(graph: Graph, odd: u32, row: u32, col: u32) -> Option<[u32; 8]
 }
 
 /// The entries of a made-up table of a base graph, by rows.
-pub(crate) fn made_up(alloc: Global, graph: Graph, odd: u32) -> Result<Vec<Cell>, AllocError> {
+fn made_up(alloc: Global, graph: Graph, odd: u32) -> Result<Vec<Cell>, AllocError> {
     let mut cells = Vec::new(alloc);
     for row in 0..graph.rows() {
         for col in 0..graph.cols() {
@@ -222,4 +222,10 @@ pub(crate) fn made_up(alloc: Global, graph: Graph, odd: u32) -> Result<Vec<Cell>
         }
     }
     Ok(cells)
+}
+
+/// The table of these entries.
+pub(crate) fn made_up_table(alloc: Global, graph: Graph, odd: u32) -> Result<Table, Fail> {
+    let cells = made_up(alloc, graph, odd)?;
+    table_of(alloc, &cells)
 }

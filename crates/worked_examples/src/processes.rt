@@ -1,8 +1,7 @@
 //! Processes over the practice table.
 
 use crate::practice::{PLAIN, on_one_layer, practice};
-use crate::receptions::{HandedUp, arrives, left_of, sent_of, told};
-use nr_bitvec::Bits;
+use crate::receptions::{HandedUp, NONE, arrived, left_of, told};
 use nr_blockdesk::{DeskFault, Heard, Processes};
 use nr_shifttable::Table;
 use std::alloc::Global;
@@ -18,19 +17,6 @@ enum Call {
 }
 
 use Call::{Begin, Hear};
-
-/// What is received of the first bits of an octet, from a place on.
-fn places_of(
-    alloc: Global,
-    table: &Table,
-    octet: u8,
-    count: u32,
-    from: usize,
-) -> Result<Vec<Heard>, Fail> {
-    let block = Bits::from_bytes(alloc, &[octet])?;
-    let bits = sent_of(alloc, table, PLAIN, &block, &on_one_layer(0, count, 1))?;
-    Ok(arrives(alloc, &bits, &[(from, usize::MAX)], &[])?)
-}
 
 /// What a call returns: nothing if a process begins, or was to receive before it did.
 pub(crate) type Answer = Result<Option<HandedUp>, DeskFault>;
@@ -69,7 +55,8 @@ fn hears(
     tx: (u32, u32),
     (from, count): (usize, u32),
 ) -> Result<Answer, Fail> {
-    let places = places_of(alloc, table, octet, count, from)?;
+    let range = [(from, usize::MAX)];
+    let places = arrived(alloc, table, &[octet], (count, &range, NONE))?;
     Ok(takes(processes, p, tx, &places))
 }
 
@@ -181,15 +168,10 @@ const REFUSED: [(Call, After); 6] = [
 ];
 
 // By hand: 24 bits leave 4 of 24 information bits, which four more fix, and 32 bits leave none. What one process
-// received means nothing to the other one, nor to itself after it began again.
+// received means nothing to the other one, nor to itself after it began again. A refused call leaves what was heard.
 #[test]
 fn processes_are_kept_apart(rt: HostRuntime) -> Result<(), Fail> {
     assert!(rt; come_as_said(rt.alloc(), &TWO)?);
-    Ok(())
-}
-
-#[test]
-fn a_refused_call_leaves_what_was_heard(rt: HostRuntime) -> Result<(), Fail> {
     assert!(rt; come_as_said(rt.alloc(), &REFUSED)?);
     Ok(())
 }

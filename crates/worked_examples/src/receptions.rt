@@ -2,10 +2,11 @@
 //! what its peelers show.
 
 use crate::peeled_words::is_shown;
-use crate::practice::{few_bits_of, on_one_layer, practice};
+use crate::practice::{PLAIN, few_bits_of, on_one_layer, practice};
 use crate::visit_counts::visits;
 use nr_bitvec::Bits;
 use nr_blockdesk::{DeskFault, Heard, Outcome, Receiver, Sender, Settings, Tx};
+use nr_ratematch::Mask;
 use nr_shifttable::Table;
 use std::alloc::{AllocError, Global};
 use std::test::Fail;
@@ -17,13 +18,8 @@ pub(crate) const NONE: Places<'static> = &[];
 
 pub(crate) const ALL: Places<'static> = &[(0, usize::MAX)];
 
-/// A transmission, the places that are received, and those that are flipped.
-#[derive(Clone, Copy)]
-pub(crate) struct Arrival<'a> {
-    pub(crate) tx: Tx,
-    pub(crate) heard: Places<'a>,
-    pub(crate) flipped: Places<'a>,
-}
+/// How the transmissions of a list are sent: the bits of a symbol, and the code blocks that are scheduled.
+pub(crate) type Way = (u32, Mask);
 
 /// The first `g` bits of redundancy version 0, the places that are received and those that are flipped.
 pub(crate) type First<'a> = (u32, Places<'a>, Places<'a>);
@@ -56,7 +52,7 @@ fn is_in(places: Places<'_>, m: usize) -> bool {
 }
 
 /// What is received of sent bits.
-pub(crate) fn arrives(
+fn arrives(
     alloc: Global,
     bits: &Bits,
     heard: Places<'_>,
@@ -93,10 +89,11 @@ fn hear_bits(
     alloc: Global,
     bits: &Bits,
     receiver: &mut Receiver<'_>,
-    arrival: &Arrival<'_>,
+    tx: &Tx,
+    (heard, flipped): (Places<'_>, Places<'_>),
 ) -> Result<HandedUp, DeskFault> {
-    match arrives(alloc, bits, arrival.heard, arrival.flipped) {
-        Ok(places) => take(receiver, &arrival.tx, &places),
+    match arrives(alloc, bits, heard, flipped) {
+        Ok(places) => take(receiver, tx, &places),
         Err(_) => Err(DeskFault::Memory),
     }
 }
@@ -106,10 +103,15 @@ fn hear(
     alloc: Global,
     sender: &Sender<'_>,
     receiver: &mut Receiver<'_>,
-    arrival: &Arrival<'_>,
+    (qm, mask): Way,
+    (g, heard, flipped): First<'_>,
 ) -> Result<HandedUp, DeskFault> {
-    match send(sender, &arrival.tx) {
-        Ok(bits) => hear_bits(alloc, &bits, receiver, arrival),
+    let tx = Tx {
+        mask,
+        ..on_one_layer(0, g, qm)
+    };
+    match send(sender, &tx) {
+        Ok(bits) => hear_bits(alloc, &bits, receiver, &tx, (heard, flipped)),
         Err(fault) => Err(fault),
     }
 }
@@ -163,12 +165,12 @@ pub(crate) fn receiver_of<'t>(
 }
 
 /// The bits that a sender sends.
-pub(crate) fn send(sender: &Sender<'_>, tx: &Tx) -> Result<Bits, DeskFault> {
+fn send(sender: &Sender<'_>, tx: &Tx) -> Result<Bits, DeskFault> {
     sender.send(tx)
 }
 
 /// The bits that the sender of a block sends.
-pub(crate) fn sent_of(
+fn sent_of(
     alloc: Global,
     table: &Table,
     settings: Settings,
@@ -179,6 +181,23 @@ pub(crate) fn sent_of(
         Ok(sender) => send(&sender, tx),
         Err(fault) => Err(fault),
     }
+}
+
+/// What arrives of the first bits that are sent of octets over a table.
+pub(crate) fn arrived(
+    alloc: Global,
+    table: &Table,
+    octets: &[u8],
+    (g, heard, flipped): First<'_>,
+) -> Result<Vec<Heard>, Fail> {
+    let bits = first_sent(alloc, table, octets, g)?;
+    Ok(arrives(alloc, &bits, heard, flipped)?)
+}
+
+/// The first bits that are sent of octets.
+fn first_sent(alloc: Global, table: &Table, octets: &[u8], g: u32) -> Result<Bits, Fail> {
+    let block = few_bits_of(alloc, octets)?;
+    Ok(sent_of(alloc, table, PLAIN, &block, &on_one_layer(0, g, 1))?)
 }
 
 /// What comes of a list of transmissions: what the last one returned, and what is left then and was visited of the
@@ -196,11 +215,12 @@ fn hear_all(
     alloc: Global,
     sender: &Sender<'_>,
     receiver: &mut Receiver<'_>,
-    arrivals: &[Arrival<'_>],
+    way: Way,
+    firsts: &[First<'_>],
 ) -> Result<HandedUp, DeskFault> {
     let mut last = HandedUp::Open;
-    for arrival in arrivals {
-        last = hear(alloc, sender, receiver, arrival)?;
+    for first in firsts.iter().copied() {
+        last = hear(alloc, sender, receiver, way, first)?;
     }
     Ok(last)
 }
@@ -223,9 +243,10 @@ fn end_after(
     table: &Table,
     sender: &Sender<'_>,
     receiver: &mut Receiver<'_>,
-    arrivals: &[Arrival<'_>],
+    way: Way,
+    firsts: &[First<'_>],
 ) -> Result<End, Fail> {
-    let told = hear_all(alloc, sender, receiver, arrivals)?;
+    let told = hear_all(alloc, sender, receiver, way, firsts)?;
     end_at(table, receiver, told)
 }
 
@@ -235,10 +256,11 @@ fn end_of(
     table: &Table,
     sender: &Sender<'_>,
     settings: Settings,
-    arrivals: &[Arrival<'_>],
+    way: Way,
+    firsts: &[First<'_>],
 ) -> Result<End, Fail> {
     match receiver_of(alloc, table, settings, sender.a()) {
-        Ok(mut receiver) => end_after(alloc, table, sender, &mut receiver, arrivals),
+        Ok(mut receiver) => end_after(alloc, table, sender, &mut receiver, way, firsts),
         Err(fault) => Err(fault.into()),
     }
 }
@@ -249,26 +271,17 @@ pub(crate) fn end_over(
     table: &Table,
     settings: Settings,
     octets: &[u8],
-    arrivals: &[Arrival<'_>],
+    way: Way,
+    firsts: &[First<'_>],
 ) -> Result<End, Fail> {
     let block = few_bits_of(alloc, octets)?;
     match sender_of(alloc, table, settings, &block) {
-        Ok(sender) => end_of(alloc, table, &sender, settings, arrivals),
+        Ok(sender) => end_of(alloc, table, &sender, settings, way, firsts),
         Err(fault) => Err(fault.into()),
     }
 }
 
-/// These first bits as arrivals.
-fn arrivals_of<'a>(alloc: Global, firsts: &[First<'a>]) -> Result<Vec<Arrival<'a>>, AllocError> {
-    let mut arrivals = Vec::new(alloc);
-    for (g, heard, flipped) in firsts.iter().copied() {
-        let tx = on_one_layer(0, g, 1);
-        arrivals.push(Arrival { tx, heard, flipped })?;
-    }
-    Ok(arrivals)
-}
-
-/// What a new receiver shows of octets over the practice table, of which first bits are sent.
+/// What a new receiver shows of octets over the practice table, of which first bits are sent one a symbol.
 pub(crate) fn end_of_firsts(
     alloc: Global,
     settings: Settings,
@@ -276,6 +289,5 @@ pub(crate) fn end_of_firsts(
     firsts: &[First<'_>],
 ) -> Result<End, Fail> {
     let table = practice(alloc, 0, 1, false)?;
-    let arrivals = arrivals_of(alloc, firsts)?;
-    end_over(alloc, &table, settings, octets, &arrivals)
+    end_over(alloc, &table, settings, octets, (1, Mask::All), firsts)
 }

@@ -12,20 +12,17 @@ fn numbers(graph: Graph, b: u32) -> Result<[u32; 8], SegFault> {
     ])
 }
 
+// The least plan of base graph 1, and refused ones.
 #[test]
-fn the_least_plan_of_base_graph_1(rt: HostRuntime) {
+fn plans_of_other_sizes(rt: HostRuntime) {
     assert!(rt; numbers(Graph::One, 24) == Ok([0, 1, 24, 22, 2, 0, 44, 132]));
-}
-
-#[test]
-fn refused_plans(rt: HostRuntime) {
     for (graph, b, fault) in [
         (Graph::Two, 23, SegFault::Short),
         (Graph::One, 0, SegFault::Short),
         (Graph::Two, 1_310_745, SegFault::Long),
         (Graph::One, u32::MAX, SegFault::Long),
     ] {
-        assert!(rt; numbers(graph, b) == Err(fault), "{b} bits");
+        assert!(rt; numbers(graph, b) == Err(fault));
     }
 }
 

@@ -3,10 +3,9 @@
 use crate::certificates::MOST;
 use crate::fix_orders::{Columns, columns_of};
 use crate::peeling::{Shown, new_peeler, show};
-use crate::practice::{PLAIN, few_bits_of, on_one_layer, practice};
-use crate::receptions::{NONE, Places, arrives, receiver_of, sent_of, take};
-use nr_bitvec::Bits;
-use nr_blockdesk::Receiver;
+use crate::practice::{PLAIN, on_one_layer, practice};
+use crate::receptions::{NONE, Places, arrived, receiver_of, take};
+use nr_blockdesk::{Heard, Receiver};
 use nr_graphpick::Graph;
 use nr_ldpcenc::EncFault;
 use nr_segment::plan;
@@ -14,75 +13,53 @@ use nr_shifttable::Table;
 use std::alloc::{AllocError, Global};
 use std::test::Fail;
 
-/// What the peeler of the first code block shows, if there is one.
-fn shown_of(alloc: Global, receiver: &Receiver<'_>) -> Result<Option<Shown>, AllocError> {
+/// What the peeler of the first code block shows. Each block has one.
+fn shown_of(alloc: Global, receiver: &Receiver<'_>) -> Result<Shown, AllocError> {
     if receiver.plan().c == 0 {
-        return Ok(None);
+        return Err(AllocError);
     }
-    Ok(Some(show(alloc, receiver.peeler(0))?))
+    show(alloc, receiver.peeler(0))
 }
 
 /// What is found about the columns of a receiver's first code block.
-fn columns_in(
-    alloc: Global,
-    table: &Table,
-    receiver: &Receiver<'_>,
-) -> Result<Option<Columns>, Fail> {
-    match shown_of(alloc, receiver)? {
-        Some(shown) => Ok(Some(columns_of(alloc, table, receiver.plan(), &shown)?)),
-        None => Ok(None),
-    }
+fn columns_in(alloc: Global, table: &Table, receiver: &Receiver<'_>) -> Result<Columns, Fail> {
+    let shown = shown_of(alloc, receiver)?;
+    columns_of(alloc, table, receiver.plan(), &shown)
 }
 
-/// What is found about the columns after places of 320 bits were received.
+/// What is found about the columns after these places of 320 bits were received.
 fn columns_after(
     alloc: Global,
     table: &Table,
     receiver: &mut Receiver<'_>,
-    bits: &Bits,
-    heard: Places<'_>,
-) -> Result<Option<Columns>, Fail> {
-    let places = arrives(alloc, bits, heard, NONE)?;
-    match take(receiver, &on_one_layer(0, 320, 1), &places) {
+    places: &[Heard],
+) -> Result<Columns, Fail> {
+    match take(receiver, &on_one_layer(0, 320, 1), places) {
         Ok(_) => columns_in(alloc, table, receiver),
         Err(fault) => Err(fault.into()),
     }
 }
 
-/// What is found about the columns of a new receiver of 24 zeros.
-fn columns_of_zeros(
-    alloc: Global,
-    table: &Table,
-    bits: &Bits,
-    heard: Places<'_>,
-) -> Result<Option<Columns>, Fail> {
+/// What is found about the columns of a new receiver of 24 bits.
+fn columns_over(alloc: Global, table: &Table, places: &[Heard]) -> Result<Columns, Fail> {
     match receiver_of(alloc, table, PLAIN, 24) {
-        Ok(mut receiver) => columns_after(alloc, table, &mut receiver, bits, heard),
+        Ok(mut receiver) => columns_after(alloc, table, &mut receiver, places),
         Err(fault) => Err(fault.into()),
     }
 }
 
-/// The 320 bits that are sent of 24 zeros.
-fn zeros_sent(alloc: Global, table: &Table) -> Result<Bits, Fail> {
-    let block = few_bits_of(alloc, &[0; 3])?;
-    match sent_of(alloc, table, PLAIN, &block, &on_one_layer(0, 320, 1)) {
-        Ok(bits) => Ok(bits),
-        Err(fault) => Err(fault.into()),
-    }
-}
-
-/// What is found about the columns if these places are received over the practice table.
-fn columns_heard(alloc: Global, heard: Places<'_>) -> Result<Option<Columns>, Fail> {
+/// What is found about the columns if these places of 24 zeros are received over the practice table.
+fn columns_heard(alloc: Global, heard: Places<'_>) -> Result<Columns, Fail> {
     let table = practice(alloc, 0, 1, false)?;
-    let bits = zeros_sent(alloc, &table)?;
-    columns_of_zeros(alloc, &table, &bits, heard)
+    let places = arrived(alloc, &table, &[0; 3], (320, heard, NONE))?;
+    columns_over(alloc, &table, &places)
 }
 
 // Column 1 is not sent, and is fixed by its copies. Column 0 is not sent, and the columns that are erased are all its
 // copies, and the parity column 11 of row 1. The 49 positions of these 7 columns are stuck, and none can be left out.
 #[test]
 fn a_receiver_is_stuck_on_seven_columns(rt: HostRuntime) -> Result<(), Fail> {
-    assert!(rt; columns_heard(rt.alloc(), MOST)? == Some((7, (true, true), 0)));
+    assert!(rt; columns_heard(rt.alloc(), MOST)? == (7, (true, true), 0));
     Ok(())
 }
 

@@ -1,11 +1,10 @@
-//! Senders over the practice table, whose word can be written by hand. What they send is in
-//! `tests/program_tests/test_send.py`.
+//! Why there is no sender of a block over the practice table. What senders send is in `tests/program_tests/test_send.py`, and
+//! the word of a block in `tests/c_library_tests/test_by_hand.py`.
 
-use crate::codewords::{WORD_01, octets_of};
-use crate::practice::{PLAIN, few_bits_of, practice, zeros};
+use crate::practice::{practice, zeros};
 use crate::receptions::sender_of;
 use nr_bitvec::Bits;
-use nr_blockdesk::{DeskFault, Sender, Settings};
+use nr_blockdesk::{DeskFault, Settings};
 use nr_graphpick::PickFault;
 use nr_ratematch::RmFault;
 use nr_segment::SegFault;
@@ -44,48 +43,6 @@ fn blocks_are_refused_in_order(rt: HostRuntime) -> Result<(), Fail> {
         let cause = refused(rt.alloc(), rate2048, count)?;
         assert!(rt; cause == Some(fault));
     }
-    Ok(())
-}
-
-/// A, C, K' and Zc of a sender, and the octets of its first word.
-type Coded = ([u32; 4], [u8; 26]);
-
-/// What a sender has.
-fn coded(sender: &Sender<'_>) -> Coded {
-    let plan = sender.plan();
-    let octets = if plan.c > 0 {
-        octets_of(sender.word(0))
-    } else {
-        [0; 26]
-    };
-    ([sender.a(), plan.c, plan.kdash, plan.z], octets)
-}
-
-/// What the sender of a block has.
-fn coded_over(alloc: Global, table: &Table, block: &Bits) -> Result<Coded, DeskFault> {
-    match sender_of(alloc, table, PLAIN, block) {
-        Ok(sender) => Ok(coded(&sender)),
-        Err(fault) => Err(fault),
-    }
-}
-
-/// What the sender of block 01 has.
-fn coded_01_over(alloc: Global, table: &Table) -> Result<Coded, DeskFault> {
-    match few_bits_of(alloc, &[0x01]) {
-        Ok(block) => coded_over(alloc, table, &block),
-        Err(_) => Err(DeskFault::Memory),
-    }
-}
-
-/// What the sender of block 01 has over the practice table.
-fn coded_01(alloc: Global) -> Result<Coded, Fail> {
-    let table = practice(alloc, 0, 1, false)?;
-    Ok(coded_01_over(alloc, &table)?)
-}
-
-#[test]
-fn a_sender_keeps_the_word(rt: HostRuntime) -> Result<(), Fail> {
-    assert!(rt; coded_01(rt.alloc())? == ([8, 1, 24, 4], WORD_01));
     Ok(())
 }
 

@@ -1,8 +1,8 @@
 //! Whole commands over a file that is Broken at each of its pulls in turn. A command that a file refuses has pulled no more,
 //! and has written nothing.
 
-use super::{BLOCKS, ROUNDS, SCHEDULE};
-use crate::ends::{Command, End, ended};
+use super::{ROUNDS, SCHEDULE};
+use crate::ends::{Case, Command, End, ended};
 use nr_commands::RunFault;
 use nr_files::{BlocksFault, ScheduleFault, SettingsFault};
 use nr_shifttable::TableFault;
@@ -53,9 +53,15 @@ fn breaks_at(
     file: End,
     k: u32,
 ) -> Result<bool, AllocError> {
-    let (answer, pulls, tape) = ended(alloc, command, BLOCKS, schedule, (file, k))?;
+    let case = Case {
+        command,
+        schedule,
+        breaks: (file, k),
+        text: b"",
+    };
+    let (answer, pulls, is_empty) = ended(alloc, case)?;
     let is_told = answer == Err(fault_of(file));
-    Ok(is_told && pulls == pulls_until(command, file, k) && tape.bytes().is_empty())
+    Ok(is_told && pulls == pulls_until(command, file, k) && is_empty)
 }
 
 /// A command over a schedule and a file that is Broken at its k-th pull, for each k: the last one meets the end.
@@ -71,40 +77,39 @@ fn breaks_at_each_pull(
     }
 }
 
-#[test]
-fn a_table_is_broken_at_each_pull(rt: HostRuntime) {
-    for command in [Command::Check, Command::Send, Command::Run, Command::Audit] {
-        breaks_at_each_pull(&rt, rt.alloc(), command, SCHEDULE, End::Table);
-    }
-}
+/// Commands over a schedule and a file: each one that reads the file. They go through rounds by a schedule of ten columns.
+const FILES: &[(&[u8], End, &[Command])] = &[
+    (
+        SCHEDULE,
+        End::Table,
+        &[Command::Check, Command::Send, Command::Run, Command::Audit],
+    ),
+    (
+        SCHEDULE,
+        End::Settings,
+        &[Command::Send, Command::Run, Command::Audit],
+    ),
+    (
+        SCHEDULE,
+        End::Blocks,
+        &[Command::Cut, Command::Send, Command::Run, Command::Audit],
+    ),
+    (
+        SCHEDULE,
+        End::Schedule,
+        &[Command::Send, Command::Run, Command::Audit],
+    ),
+    (ROUNDS, End::Table, &[Command::Run, Command::Audit]),
+    (ROUNDS, End::Settings, &[Command::Run, Command::Audit]),
+    (ROUNDS, End::Blocks, &[Command::Run, Command::Audit]),
+    (ROUNDS, End::Schedule, &[Command::Run, Command::Audit]),
+];
 
 #[test]
-fn settings_are_broken_at_each_pull(rt: HostRuntime) {
-    for command in [Command::Send, Command::Run, Command::Audit] {
-        breaks_at_each_pull(&rt, rt.alloc(), command, SCHEDULE, End::Settings);
-    }
-}
-
-#[test]
-fn blocks_are_broken_at_each_pull(rt: HostRuntime) {
-    for command in [Command::Cut, Command::Send, Command::Run, Command::Audit] {
-        breaks_at_each_pull(&rt, rt.alloc(), command, SCHEDULE, End::Blocks);
-    }
-}
-
-#[test]
-fn a_schedule_is_broken_at_each_pull(rt: HostRuntime) {
-    for command in [Command::Send, Command::Run, Command::Audit] {
-        breaks_at_each_pull(&rt, rt.alloc(), command, SCHEDULE, End::Schedule);
-    }
-}
-
-// A schedule of ten columns, by which the commands go through rounds.
-#[test]
-fn rounds_are_broken_at_each_pull(rt: HostRuntime) {
-    for file in [End::Table, End::Settings, End::Blocks, End::Schedule] {
-        for command in [Command::Run, Command::Audit] {
-            breaks_at_each_pull(&rt, rt.alloc(), command, ROUNDS, file);
+fn files_are_broken_at_each_pull(rt: HostRuntime) {
+    for (schedule, file, commands) in FILES.iter().copied() {
+        for command in commands.iter().copied() {
+            breaks_at_each_pull(&rt, rt.alloc(), command, schedule, file);
         }
     }
 }

@@ -1,6 +1,7 @@
 //! Lists of bits that grow, code blocks that are joined or appended, and interleaving to a list of its own.
 
 use super::has_memory;
+use crate::bit_lists::{has_octets, is_cloned};
 use nr_bitvec::Bits;
 use nr_cbconcat::append;
 use nr_crcattach::attach_code;
@@ -53,20 +54,16 @@ fn pushes(rt: HostRuntime) -> Result<(), AllocError> {
     Ok(())
 }
 
-// Puts a short list after another.
-fn extend(bits: &mut Bits, more: &Bits) -> Result<(), AllocError> {
-    if bits.len() < 1000 && more.len() < 1000 {
-        bits.extend(more)?;
+// Puts a short list after another, also by the call of code blocks.
+fn add(bits: &mut Bits, more: &Bits, is_block: bool) -> Result<(), AllocError> {
+    if bits.len() > 1000 || more.len() > 1000 {
+        return Ok(());
     }
-    Ok(())
-}
-
-// Puts a short list after another by the call of code blocks.
-fn append_block(bits: &mut Bits, more: &Bits) -> Result<(), AllocError> {
-    if bits.len() < 1000 && more.len() < 1000 {
-        append(bits, more)?;
+    if is_block {
+        append(bits, more)
+    } else {
+        bits.extend(more)
     }
-    Ok(())
 }
 
 // The last four bits of 38 and the first four of 31.
@@ -74,38 +71,42 @@ fn are_twice_the_octets(rt: &impl Abort, bits: &Bits) {
     assert!(rt; bits.octet(60) == 0x83);
 }
 
-#[test]
-fn extends(rt: HostRuntime) -> Result<(), AllocError> {
-    let more = Bits::from_bytes(rt.alloc(), &OCTETS)?;
-    let mut bits = Bits::from_bytes(rt.alloc(), &OCTETS)?;
-    let answer = extend(&mut bits, &more);
+// Puts a list after another, and once more if that is refused.
+fn add_again(
+    rt: &impl Abort,
+    alloc: Global,
+    bits: &mut Bits,
+    more: &Bits,
+    is_block: bool,
+) -> Result<(), AllocError> {
+    let answer = add(bits, more, is_block);
     if answer.is_err() {
-        is_as_before(&rt, &bits);
-        if has_memory(rt.alloc()) {
-            assert!(rt; extend(&mut bits, &more).is_ok());
-            are_twice_the_octets(&rt, &bits);
+        is_as_before(rt, bits);
+        if has_memory(alloc) {
+            assert!(rt; add(bits, more, is_block).is_ok());
+            are_twice_the_octets(rt, bits);
         }
     }
-    answer?;
-    are_twice_the_octets(&rt, &bits);
+    answer
+}
+
+// Puts the octets' bits after themselves.
+fn double(rt: &impl Abort, alloc: Global, is_block: bool) -> Result<(), AllocError> {
+    let more = Bits::from_bytes(alloc, &OCTETS)?;
+    let mut bits = Bits::from_bytes(alloc, &OCTETS)?;
+    add_again(rt, alloc, &mut bits, &more, is_block)?;
+    are_twice_the_octets(rt, &bits);
     Ok(())
 }
 
 #[test]
+fn extends(rt: HostRuntime) -> Result<(), AllocError> {
+    double(&rt, rt.alloc(), false)
+}
+
+#[test]
 fn appends(rt: HostRuntime) -> Result<(), AllocError> {
-    let more = Bits::from_bytes(rt.alloc(), &OCTETS)?;
-    let mut bits = Bits::from_bytes(rt.alloc(), &OCTETS)?;
-    let answer = append_block(&mut bits, &more);
-    if answer.is_err() {
-        is_as_before(&rt, &bits);
-        if has_memory(rt.alloc()) {
-            assert!(rt; append_block(&mut bits, &more).is_ok());
-            are_twice_the_octets(&rt, &bits);
-        }
-    }
-    answer?;
-    are_twice_the_octets(&rt, &bits);
-    Ok(())
+    double(&rt, rt.alloc(), true)
 }
 
 // Eight bits in four rows: their octet.
@@ -177,31 +178,15 @@ fn joins(rt: HostRuntime) -> Result<(), Fail> {
     Ok(())
 }
 
-// Whether a list has those octets alone.
-fn has_the_octets(bits: &Bits) -> Result<bool, AllocError> {
-    match bits.to_bytes() {
-        Ok(octets) => Ok(octets.as_slice() == OCTETS.as_slice()),
-        Err(error) => Err(error),
-    }
-}
-
 #[test]
 fn gives_its_octets(rt: HostRuntime) -> Result<(), AllocError> {
     let bits = Bits::from_bytes(rt.alloc(), &OCTETS)?;
-    let answer = has_the_octets(&bits);
+    let answer = has_octets(&bits, &OCTETS);
     if answer.is_err() && has_memory(rt.alloc()) {
-        assert!(rt; has_the_octets(&bits) == Ok(true));
+        assert!(rt; has_octets(&bits, &OCTETS) == Ok(true));
     }
     assert!(rt; answer?);
     Ok(())
-}
-
-// Whether a list is cloned.
-fn is_cloned(bits: &Bits) -> Result<bool, AllocError> {
-    match bits.try_clone() {
-        Ok(copy) => Ok(copy == *bits),
-        Err(error) => Err(error),
-    }
 }
 
 #[test]
