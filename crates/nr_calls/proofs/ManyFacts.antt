@@ -103,11 +103,6 @@ many-rows t s n a ts octets room p link few planned fits whole linked =
     let all : (length octets == n * places_sent ts) ≡ true = eq-eqb (length octets) (n * places_sent ts) whole in
     rw (few-too, planned, fits, all, linked) refl
 
--- a refusal, or memory ran out
-pub gives-refused : {V Y : Type 0} (view : V → Y) (r : Result V Fault) (e : Fault) (said : Result Y Fault) → r ≡ Err e
-    → ((e ≡ fault.Memory) ⊎ (said ≡ Err e)) → Gives fault.Memory view r said
-gives-refused view r e said is why = rw is why
-
 -- What is found of the blocks, each with the room that it has, is what the call returns.
 pub many-said : (t : Entries) (s : Settings) (n a : ℕ) (ts : List NrTx) (octets : List ℕ) (room : Room) (p : Planned)
     (link : Link)

@@ -4,8 +4,10 @@ use Rattle.std.proofs.lemmas.List.{length-append, length-map}
 use Rattle.std.proofs.lemmas.Result.{err_from_is_err_and}
 use Rattle.nr_blockdesk.specs.Receiving.{ReceiverView, verdict}
 use Rattle.nr_calls.specs.inside.Words.{block_fits, found_of_each, has_room}
+use Rattle.nr_refusal.proofs.ResultFacts.{gives-err}
 use Rattle.nr_calls.proofs.FoundRowFacts.{no-rows, rows-more}
-use Rattle.nr_calls.proofs.ManyFacts.{gives-refused, room-fills, row-fails, row-inside, row-more, rows-all}
+use Rattle.nr_calls.proofs.ManyFacts.{room-fills, row-fails, row-inside, row-more, rows-all}
+use Rattle.nr_calls.specs.declared.fault.Fault.TheVariants as fault
 use Rattle.nr_calls.specs.declared.findings.Room.{Room}
 use Rattle.nr_calls.specs.Many.{each_said}
 use Rattle.nr_calls.proofs.many_rows.hear_rows.Goals as goal
@@ -81,7 +83,7 @@ overflow_add-row c =
 pub returns-in_err-receiver-clause-said : goal.returns-in_err-receiver-clause-said
 returns-in_err-receiver-clause-said c =
     let p = err_from_is_err_and c.from_residual.result c.from_residual.ensures.1 in
-    gives-refused _ c.from_residual.result c.in_err-receiver.field-0.0 _ (p.1 ∙ ap Err p.2)
+    gives-err fault.Memory _ c.from_residual.result c.in_err-receiver.field-0.0 _ (p.1 ∙ ap Err p.2)
     (inl c.in_err-receiver.ensures.err)
 
 -- If memory did not run out, this row is the first that is refused, so its fault is that of all.
@@ -89,7 +91,7 @@ pub returns-in_err-hear_row-clause-said : goal.returns-in_err-hear_row-clause-sa
 returns-in_err-hear_row-clause-said c =
     let e = c.in_err-hear_row.field-0.0 in
     let p = err_from_is_err_and c.from_residual-in_err-hear_row.result c.from_residual-in_err-hear_row.ensures.1 in
-    gives-refused _ c.from_residual-in_err-hear_row.result e _ (p.1 ∙ ap Err p.2)
+    gives-err fault.Memory _ c.from_residual-in_err-hear_row.result e _ (p.1 ∙ ap Err p.2)
     (⊎_elim (λ memory. inl memory)
     (λ said. inr (row-fails _ c.args.rows.places c.args.rows.room.count c.loop-k.k c.args.rows.octets.now
     _ e c.loop-k-test.true c.loop-k.invariant.said said))

@@ -4,7 +4,7 @@ use Rattle.nr_calls.proofs.Common.{err_from_is_err_and, length-map-range_with_le
 use Rattle.nr_calls.proofs.ReceptionListFacts.{heard-all, heard-block, heard-err, heard-many, heard-more, heard-over, heard-short}
 use Rattle.nr_calls.proofs.PackedFacts.{arrives, behind, next-long, next-short, nothing-over, over}
 use Rattle.nr_calls.specs.Packed.{octet_count, unpacked}
-use Rattle.std.specs.Prelude.{max, min}
+use Rattle.std.specs.Prelude.{min}
 use Rattle.nr_calls.proofs.packed.hear_all_packed.Goals as goal
 
 pub returns-then-min-count-clause-said : goal.returns-then-min-count-clause-said
