@@ -213,17 +213,19 @@ def of_shifts(seen: list[Seen], tables: Tables) -> typing.Iterator[str]:
 
 
 def of_input(seen: list[Seen], tables: TablesKey) -> typing.Iterator[str]:
-    """Words for parity bits that are right for the information bits, read in another way."""
-    for words, read in READ.items():
-        for it in seen[:SOME]:
-            plan, first = it.plan, it.information
-            info = "".join(f"{column:0{plan.z}b}" for column in it.columns[:first])[: plan.kdash]
-            made = encoder_of(right(), tables, plan.graph, plan.z, plan.set).columns(read(info).ljust(plan.k, "0"))
-            pairs = zip(it.columns[first:], it.wrong[first:], it.known[first:], made[first:])
-            if min(it.bad) < first or any((own ^ wrong ^ other) & known for own, wrong, known, other in pairs):
-                break
-        else:
-            yield f"the wrong parity bits are those of the information bits {words}"
+    """Words for parity bits that are right for the information bits, read in another way, if enough are wrong and they alone."""
+    def fits(it: Seen, read: typing.Callable[[str], str]) -> bool:
+        plan, first = it.plan, it.information
+        info = "".join(f"{column:0{plan.z}b}" for column in it.columns[:first])[: plan.kdash]
+        made = encoder_of(right(), tables, plan.graph, plan.z, plan.set).columns(read(info).ljust(plan.k, "0"))
+        pairs = zip(it.columns[first:], it.wrong[first:], it.known[first:], made[first:])
+        return not any((own ^ wrong ^ other) & known for own, wrong, known, other in pairs)
+
+    few = seen[:SOME]
+    is_parity = all(min(it.bad) >= it.information and it.plan.graph in tables.tables for it in few)
+    if is_parity and sum(f"{wrong:b}".count("1") for it in few for wrong in it.wrong) >= FEW_BITS:
+        yield from (f"the wrong parity bits are those of the information bits {words}" for words, read in READ.items()
+                    if all(fits(it, read) for it in few))
 
 
 def of_single_ones(failing: list[Trial], passing: list[Trial]) -> typing.Iterator[str]:
