@@ -70,7 +70,7 @@ fn adds_to(size: u16, p: usize, src: &Bits, acc: &mut Bits) -> Result<bool, Allo
     Ok(is_sum(acc, &before, src, z, p))
 }
 
-// The same of blocks of a size.
+// Whether `adds_to` holds for blocks of this size.
 fn adds_up(alloc: Global, size: u16, p: usize) -> Result<bool, Fail> {
     let src = block(alloc, usize::from(size), 3, 1)?;
     let mut acc = block(alloc, usize::from(size), 5, 2)?;
@@ -120,7 +120,7 @@ fn tallies_to(
     Ok(is_counted((ones, more), (&ones_before, &more_before), src, z, p))
 }
 
-// The same of two parts of a list. Both have ones past the counted places.
+// Whether `tallies_to` holds for two parts of one list. Both have ones past the counted places.
 fn tallies_in(size: u16, p: usize, src: &Bits, full: &Bits) -> Result<bool, AllocError> {
     let z = usize::from(size);
     if full.len() != z + 12 {
@@ -131,7 +131,7 @@ fn tallies_in(size: u16, p: usize, src: &Bits, full: &Bits) -> Result<bool, Allo
     tallies_to(size, p, src, &mut ones, &mut more)
 }
 
-// The same of blocks of a size.
+// Whether `tallies_in` holds for blocks of this size.
 fn tallies(alloc: Global, size: u16, p: usize) -> Result<bool, Fail> {
     let src = block(alloc, usize::from(size), 3, 3)?;
     let full = block(alloc, usize::from(size), 6, 4)?;

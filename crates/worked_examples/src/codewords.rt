@@ -126,13 +126,13 @@ fn met_over(alloc: Global, first: &Table, second: &Table) -> Result<[bool; 3], F
     ])
 }
 
-/// The same of this table and one whose first parity column is rotated by another of its values.
+/// What `met_over` says of this table and of one whose first parity column is rotated by another of its values.
 fn met_over_first(alloc: Global, first: &Table) -> Result<[bool; 3], Fail> {
     let second = practice(alloc, 1, 0, true)?;
     met_over(alloc, first, &second)
 }
 
-/// The same of two tables.
+/// What it says of two practice tables.
 fn met_rows(alloc: Global) -> Result<[bool; 3], Fail> {
     let first = practice(alloc, 0, 1, true)?;
     met_over_first(alloc, &first)
