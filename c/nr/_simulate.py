@@ -75,18 +75,18 @@ class _Seeds:
 
     def __init__(self, seed: int, thresholds: typing.List[int], chunk: int, first: int) -> None:
         starts = {threshold: hashlib.sha256(b"%d %d %d " % (seed, threshold, chunk)) for threshold in thresholds}
-        self.starts, self.first = [(starts[threshold], b" %d" % at) for at, threshold in enumerate(thresholds)], first
+        self.starts, self.first = [(starts[threshold], b"%%d %d" % at) for at, threshold in enumerate(thresholds)], first
 
     def of(self, turns: typing.Iterable[int], sent: int) -> "array.array[int]":
         """Those of the first `sent` transmissions of some rounds."""
-        starts, pieces = self.starts[:sent], []
+        starts, digests = self.starts[:sent], []
         for turn in turns:
-            number = b"%d" % (self.first + turn)
-            for start, end in starts:
+            for start, rest in starts:
                 digest = start.copy()
-                digest.update(number + end)
-                pieces.append(digest.digest()[:8])
-        found = array.array("Q", b"".join(pieces))
+                digest.update(rest % (self.first + turn))
+                digests.append(digest.digest())
+        # The first 8 octets of each 32.
+        found = array.array("Q", b"".join(digests))[::4]
         if sys.byteorder == "little":
             found.byteswap()
         return found
