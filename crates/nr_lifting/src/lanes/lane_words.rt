@@ -53,7 +53,6 @@ pub fn lane_count<const W: usize>(lane: &[u64; W]) -> u32
 }
 
 /// Returns whether no bit of the lane is set, without counting them.
-#[tactic(auto, using(std::proofs::lemmas::Bool::cases_eq, std::proofs::lemmas::Nat::le_or_l, std::proofs::lemmas::Nat::le_or_r))]
 pub fn is_blank<const W: usize>(lane: &[u64; W]) -> bool
     ensures { IsTrue result ↔ ((t : ℕ) → is_set lane.now t ≡ false) }
 {

@@ -11,3 +11,6 @@ returns-clause-rotated c = λ j short below.
     ∙ bit_at_or c.window-straight.result c.wrapped_word.result j
     ∙ rotated c.args.words.now c.args.size (64 * c.args.i + j) c.args.p _ _ below c.requires.rotation c.requires.clear straight
     (c.wrapped_word.ensures.low j) (c.wrapped_word.ensures.high j short)
+
+pub returns-clause-clear : goal.returns-clause-clear
+returns-clause-clear c = λ j past. c.low_bits.ensures.high j (omega (arith, past))

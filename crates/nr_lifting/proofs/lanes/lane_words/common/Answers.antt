@@ -1,10 +1,11 @@
-use Rattle.nr_lifting.proofs.Names.{arith, length-replicate, rules}
+use Rattle.nr_lifting.proofs.Names.{arith, length-replicate, refl, ℕ}
 use Rattle.nr_lifting.proofs.LaneBitFacts.{made_next, common_all, common_bit, common_clear}
 use Rattle.nr_lifting.proofs.lanes.lane_words.common.Goals as goal
 
 -- the next word is made
 pub loop-i-preserved : goal.loop-i-preserved
-loop-i-preserved g c = search (rules, made_next, common_bit, length-replicate)
+loop-i-preserved g c = made_next _ _ _ _ _ _ c.loop-i.invariant (omega (arith, length-replicate {A = ℕ})) refl
+    (λ j short. common_bit _ _ c.loop-i.i j _ _ refl refl short)
 
 pub returns : goal.returns
 returns g c = record {
