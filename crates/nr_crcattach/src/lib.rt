@@ -47,8 +47,8 @@ impl Poly {
         }
     }
 
-    /// Returns the number of parity bits: 24 for `A24` and `B24`, 16 for `C16`.
-    pub fn degree(self) -> u32
+    // The number of parity bits: 24 for `A24` and `B24`, 16 for `C16`.
+    pub(crate) fn degree(self) -> u32
         ensures { result ≡ degree self }
     {
         match self {
