@@ -1,6 +1,7 @@
 -- What a tally of a row counts, and that a row is within the word.
 use Rattle.nr_peel.proofs.Common.{◌≡◌, ℕ, ◌+◌, ◌*◌, ◌<◌, ◌≤◌, ◌||◌, ◌&&◌, nat_lt, Bool, false}
 use Rattle.nr_peel.proofs.Common.{List, length, get_or, take, refl, arith, zero, suc, All, count_by, and_parts, and_from, eqb-true}
+use Rattle.std.proofs.lemmas.List.Elements.{All-get_or}
 use Rattle.nr_peel.proofs.Common.{eq-eqb, get_or-map, length-map, numbers, Entry, IsTable, entries_in, row_of, IsDistinctRow}
 use Rattle.nr_peel.proofs.Common.{any_below, fixes, stands, lacks_one, lifted_checks, Lifted, nat_tests}
 use Rattle.nr_peel.proofs.{ClosureFacts.same_truth, TieFacts.row_columns, CodewordFacts.only_fixes, CodewordFacts.stands_once}
@@ -21,8 +22,22 @@ pub tally_more : (U : ℕ → Bool) (ps : List ℕ) (n p : ℕ) (a d b : Bool) �
     → b ≡ nat_lt 1 (count_by U (take (n + 1) ps))
 tally_more U ps n p a d b lt is one so now = grind (arith, nat_tests, count_more U ps n 0 lt)
 
+-- the first position: a tally that begins with it
+pub first_ones : (U : ℕ → Bool) (ps : List ℕ) (p : ℕ) (b : Bool) → 0 < length ps → get_or ps 0 0 ≡ p → b ≡ U p
+    → b ≡ nat_lt 0 (count_by U (take 1 ps))
+first_ones U ps p b lt is now = tally_ones U ps 0 p false b lt is refl now
+
+pub first_more : (U : ℕ → Bool) (ps : List ℕ) (b : Bool) → 0 < length ps → b ≡ false → b ≡ nat_lt 1 (count_by U (take 1 ps))
+first_more U ps b lt now = tally_more U ps 0 (get_or ps 0 0) false false b lt refl refl refl now
+
+-- an entry of a row of blocks is within the word
+pub column_fits : (es : List Entry) (none : Entry) (i col z n : ℕ) → All (λ e. (e.col + 1) * z ≤ n) es → i < length es
+    → col ≡ (get_or es i none).col → col * z + z ≤ n
+column_fits es none i col z n all inside is =
+    rw is (omega (arith, All-get_or (λ (e : Entry). (e.col + 1) * z ≤ n) es i none inside all))
+
 -- what closes the loop over the entries of a row of blocks
-pub ruleset tally_rules = (tally_ones, tally_more, get_or-map, length-map)
+pub ruleset tally_rules = (first_ones, first_more, tally_ones, tally_more, get_or-map, length-map, column_fits)
 
 -- each entry of a row of blocks is within the word
 pub row_fits : (l : Lifted) (es : List Entry) (i n : ℕ) → IsTable l.table.now

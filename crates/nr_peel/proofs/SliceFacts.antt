@@ -5,6 +5,8 @@ use Rattle.nr_peel.proofs.Common.{◌==◌, ◌||◌, ◌&&◌, count_by, ap, �
 use Rattle.nr_peel.proofs.Common.{nat_lt, get_or-set_other, get_or-set_same, bit_at-trailing_zeros, trailing_zeros, some_lone_below}
 use Rattle.nr_peel.proofs.Common.{get_or, arith, bit_at, bit_or, stands, false, ◌*◌, ◌%◌, ◌/◌, Entry, one_at, bit_not}
 use Rattle.nr_peel.proofs.Common.{list_any_more, slice_index, bit_at-zero, mod-eq_of_lt, div-mul-add, div-add-mod', range_with_len}
+use Rattle.nr_peel.proofs.Common.{[], ◌∷◌, Lifted, row_in}
+use Rattle.std.specs.Prelude.{None, slice_get}
 use Rattle.nr_peel.proofs.Common.{ℕ, Bool, not, List, set, take, w64, zero, suc, refl, sym, cond, inl, inr, slice}
 use Rattle.nr_peel.proofs.{ClosureFacts.passes_any_below, UnknownFacts.counted_marked, RowTallyFacts.any_below-same}
 use Rattle.nr_peel.proofs.RowPlaceFacts.{mod_high, place-eqb}
@@ -21,6 +23,22 @@ lone_row known ps n j a b d end one several is = grind (arith, nat_tests, take_a
 -- ---- runs of rows whose positions are one after another
 
 pub ruleset bits = (or-one, and-one, bit_at_not-one, get_or-set_same, get_or-set_other)
+
+-- one more row of a run is begun
+pub run_begun : (some old known : List ℕ) (at from k r q : ℕ) → r ≡ at + k → q ≡ from + k → r < length some
+    → slice_index known q < 2 ^ 64
+    → ((j t : ℕ) → j < 64 → slice some j t ≡ ((is_in_run at k t && not (slice known j (from + (t - at))))
+    || (not (is_in_run at k t) && slice old j t)))
+    → (j t : ℕ) → j < 64 → slice (set some r (bit_not w64 (slice_index known q))) j t
+    ≡ ((is_in_run at (k + 1) t && not (slice known j (from + (t - at)))) || (not (is_in_run at (k + 1) t) && slice old j t))
+run_begun some old known at from k r q here there inside fits so j t short =
+    grind (arith, nat_tests, cases_eq t r, bits, so j t short)
+
+pub run_none : (more before : List ℕ) (at k r : ℕ) → r ≡ at + k → r < length more
+    → ((j t : ℕ) → j < 64 → slice more j t ≡ (not (is_in_run at k t) && slice before j t))
+    → (j t : ℕ) → j < 64 → slice (set more r 0) j t ≡ (not (is_in_run at (k + 1) t) && slice before j t)
+run_none more before at k r here inside so j t short =
+    grind (arith, nat_tests, cases_eq t r, bits, bit_at-zero, so j t short)
 
 -- one more row of a run is tallied
 pub run_some : (some old known : List ℕ) (at from k r q : ℕ) → r ≡ at + k → q ≡ from + k → r < length some
@@ -52,7 +70,7 @@ pub run_filled : (known old sets : List ℕ) (at from k r q : ℕ) → r ≡ at 
 run_filled known old sets at from k r q here there inside so j p short =
     grind (arith, nat_tests, cases_eq p q, bits, so j p short)
 
-pub ruleset run_rules = (run_some, run_more, run_filled, length-set)
+pub ruleset run_rules = (run_begun, run_none, run_some, run_more, run_filled, length-set)
 
 -- ---- a row keeps the sets outside which it has one position and no more
 
@@ -90,7 +108,23 @@ module _ (z r from t : ℕ) (small : r < z) (lane : t < z) where
   late : z - r ≤ t → from + (t - (z - r)) ≡ from + (t + r) % z
   late le = omega (arith, mod_high (t + r) z (omega (arith, le)) (omega (arith, small, lane)))
 
+  pub both_none : (a b d : Bool) → b ≡ (not (is_in_run 0 (z - r) t) && a) → d ≡ (not (is_in_run (z - r) r t) && b)
+      → d ≡ false
+  both_none a b d one two = elim (cases_lt t (z - r)) [
+    | inl lt ↦ grind (arith, nat_tests)
+    | inr le ↦ grind (arith, nat_tests)
+  ]
+
   module _ (K : ℕ → Bool) where
+    pub both_begun : (a b d : Bool)
+        → b ≡ ((is_in_run 0 (z - r) t && not (K (from + r + (t - 0)))) || (not (is_in_run 0 (z - r) t) && a))
+        → d ≡ ((is_in_run (z - r) r t && not (K (from + (t - (z - r))))) || (not (is_in_run (z - r) r t) && b))
+        → d ≡ not (K (from + (t + r) % z))
+    both_begun a b d one two = elim (cases_lt t (z - r)) [
+      | inl lt ↦ let e = ap K (early lt) in grind (arith, nat_tests)
+      | inr le ↦ let e = ap K (late le) in grind (arith, nat_tests)
+    ]
+
     pub both_some : (a b d : Bool) → b ≡ (a || (is_in_run 0 (z - r) t && not (K (from + r + (t - 0)))))
         → d ≡ (b || (is_in_run (z - r) r t && not (K (from + (t - (z - r))))))
         → d ≡ (a || not (K (from + (t + r) % z)))
@@ -168,6 +202,14 @@ pub lone_rows : (words sets : List ℕ) (row : ℕ → List ℕ) (z : ℕ) → (
     → any_below (λ t. not (slice_index sets t == 0)) z ≡ some_lone_below words row z
 lone_rows words sets row z fits is = any_below-same (λ t. not (slice_index sets t == 0)) (λ t. some_lone words (row t)) z
     (λ t lt. sym (lone_is words (row t) (slice_index sets t) (fits t) (λ j short. is j t short lt)))
+
+-- no row of an empty row of blocks has a position
+pub none_lone : (words : List ℕ) (l : Lifted) (row : List Entry) (z : ℕ) → slice_get row 0 ≡ None
+    → false ≡ some_lone_below words (row_in l row) z
+unfolding some_lone
+none_lone words l [] z is = sym (none_below (λ t. some_lone words (row_in l [] t)) z
+    (λ t lt. none_below (λ j. lacks_one (slice words j) (row_in l [] t)) 64 (λ j short. refl)))
+none_lone words l (e ∷ row) z is = absurd (grind (arith, is))
 
 -- ---- one more entry of a row of blocks is filled
 
