@@ -9,4 +9,4 @@ mod ending;
 mod streams;
 
 pub use ending::{Ending, finish};
-pub use streams::{Complaints, Incoming, Outgoing, read_some, source_of};
+pub use streams::{Complaints, Incoming, Outgoing, source_of};

@@ -95,12 +95,8 @@ fn read_standard<R: Input>(rt: &R, buf: &mut [u8]) -> Result<usize, Broken>
     read_some(&mut rt.reader(), buf)
 }
 
-/// Reads once, and again if a signal interrupts the read.
-///
-/// # Errors
-///
-/// `Broken` if the read fails for another reason.
-pub fn read_some<I: Read>(input: &mut I, buf: &mut [u8]) -> Result<usize, Broken>
+// Reads once, and again if a signal interrupts the read.
+fn read_some<I: Read>(input: &mut I, buf: &mut [u8]) -> Result<usize, Broken>
     ensures { ReadsAtMost result buf.new }
 {
     for _ in 0..u64::MAX {
