@@ -114,20 +114,9 @@ fn write_block<O: Sink>(
     write_planned(alloc, number, a, &plan, &attached, out)
 }
 
-/// Writes the text of `cut` for transport blocks, given as octets, that have been checked at the code rate `rate2048` /
-/// 2048. By TS 38.212, 6.2.1 to 6.2.3 and 7.2.1 to 7.2.3, it writes for each block, counted from 1,
-///
-/// - `block <n> a <A> b <B> graph <1 or 2> c <C> l <L> kdash <K'> kb <Kb> z <Zc> set <set index> k <K> n <N>`;
-/// - `attached <n> <the B bits with the CRC>`;
-/// - `code <n> <r> <the K' bits>` for each code block r, counted from 0.
-///
-/// Bits are written in lower-case hexadecimal digits, the last one padded with zero bits. Each line is written as soon
-/// as it is made, those of the code blocks of a block together.
-///
-/// # Errors
-///
-/// `Write` if a put failed, or `Memory` if memory runs out. A first part of the text is written then.
-pub fn write_blocks<O: Sink>(
+// Writes the text of `cut` for transport blocks, given as octets, that have been checked at the code rate `rate2048` /
+// 2048.
+pub(crate) fn write_blocks<O: Sink>(
     alloc: Global,
     rate2048: u32,
     blocks: &[Vec<u8>],

@@ -12,7 +12,13 @@ use nr_streams::{Sink, Source};
 use std::alloc::Global;
 
 /// Shows what TS 38.212 makes of each transport block of a blocks file, up to its code blocks (6.2.1 to 6.2.3, 7.2.1 to
-/// 7.2.3). `rate2048` is the code rate in 2048ths.
+/// 7.2.3). `rate2048` is the code rate in 2048ths. It writes for each block, counted from 1,
+///
+/// - `block <n> a <A> b <B> graph <1 or 2> c <C> l <L> kdash <K'> kb <Kb> z <Zc> set <set index> k <K> n <N>`;
+/// - `attached <n> <the B bits with the CRC>`;
+/// - `code <n> <r> <the K' bits>` for each code block r, counted from 0.
+///
+/// Bits are written in lower-case hexadecimal digits, the last one padded with zero bits.
 ///
 /// The blocks file is read to its end, and every block is checked, before the first put. Then each line is written as
 /// soon as it is made, those of the code blocks of a block together.

@@ -4,7 +4,7 @@
 //! (specs/Command.antt).
 //!
 //! `cut` shows what TS 38.212 makes of each transport block up to its code blocks (6.2.1 to 6.2.3, 7.2.1 to 7.2.3).
-//! `check` checks a shift table. `write_blocks` writes the lines of blocks, and `put_line` a single line.
+//! `check` checks a shift table. `put_line` writes a single line.
 #![tactic(auto)]
 
 mod check_lines;
@@ -18,7 +18,7 @@ mod hex;
 mod laws;
 
 pub use checking::check;
-pub use cut_text::{judge, write_blocks};
+pub use cut_text::judge;
 pub use cutting::cut;
 pub use delivering::put_line;
 pub use fault::RunFault;
