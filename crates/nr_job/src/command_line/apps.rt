@@ -45,19 +45,17 @@ pub(super) fn program<'a>(alloc: Global) -> Result<Command<'a>, AllocError> {
 
 // The program without its commands.
 fn bare_program<'a>(alloc: Global) -> Result<Command<'a>, AllocError> {
-    Ok(
-        Command::new(alloc, "linksim")
-            .bin_name("linksim")?
-            .about(ABOUT)
-            .after_help(
-                "With no arguments, linksim does what 'linksim cut --rate 2048 --blocks -' does.
+    Command::new(alloc, "linksim")
+        .about(ABOUT)
+        .after_help(
+            "With no arguments, linksim does what 'linksim cut --rate 2048 --blocks -' does.
 
 Exit status: 0 on success, 1 on an error, 2 on wrong usage",
-            )
-            .version(VERSION)
-            .no_binary_name(true)
-            .subcommand_required(true),
-    )
+        )
+        .version(VERSION)
+        .no_binary_name(true)
+        .subcommand_required(true)
+        .bin_name("linksim")
 }
 
 // Adds a command to the program, if there was memory for both.
@@ -102,12 +100,11 @@ impl Name {
         ensures { IfOk result (λ c. app_of c ≡ new_app (named_app self).top.name) }
     {
         let ends = self.ends();
-        let command = Command::new(alloc, self.word())
-            .bin_name(self.call())?
+        Command::new(alloc, self.word())
             .about(self.about())
             .after_help(ends.0)
-            .after_long_help(ends.1);
-        Ok(command)
+            .after_long_help(ends.1)
+            .bin_name(self.call())
     }
 
     // Its word.
