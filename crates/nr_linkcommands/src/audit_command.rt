@@ -120,8 +120,8 @@ fn write_round<O: Sink>(
         Some(number) => {
             let sender = &ready.senders[number as usize - 1];
             sender.is_sound();
-            let receiver = replay(ready.alloc, sender, process, round.transmissions)?;
             let head = head_of(ready, process)?;
+            let receiver = replay(ready.alloc, sender, process, round.transmissions)?;
             write_codes(ready.alloc, &head, number, &receiver, out)
         }
     }

@@ -18,13 +18,9 @@ pub(crate) fn head_of(ready: &Ready, process: u32) -> Result<String, AllocError>
     }
 }
 
-/// Returns the words that stand before each line about a round of a process.
-///
-/// # Errors
-///
-/// `AllocError` if memory runs out.
+// The words that stand before each line about a round of a process.
 #[tactic(auto, unfolding(crate::specs::RunLines::process_words))]
-pub fn process_words(alloc: Global, process: u32) -> Result<String, AllocError>
+pub(crate) fn process_words(alloc: Global, process: u32) -> Result<String, AllocError>
     ensures { IfOk result (λ words. string_bytes words ≡ process_words process) }
 {
     let mut words = String::new(alloc);

@@ -19,7 +19,6 @@ mod schedule_walk;
 mod send_command;
 
 pub use audit_command::audit;
-pub use heads::process_words;
 pub use inputs::{Inputs, read_inputs};
 pub use run_command::{
     erasures_alone_are_safe, lines_are_own, rounds_are_calls, run, runs_are_safe,

@@ -19,10 +19,9 @@ pub(crate) fn code_line(
     ensures { IfOk result (λ line. line.items
         ≡ head.now ++ audit_line number receiver.now.link receiver.now.heard r) }
 {
-    let line = line_of(alloc, number, receiver, r)?;
-    let mut whole = String::new(alloc);
-    write!(whole, "{head}{line}")?;
-    Ok(whole.into_bytes())
+    let mut line = line_of(alloc, number, receiver, r)?;
+    line.insert_str(0, head)?;
+    Ok(line.into_bytes())
 }
 
 // The line of a code block without a head.

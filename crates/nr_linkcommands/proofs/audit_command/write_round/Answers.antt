@@ -37,7 +37,7 @@ returns-in_err-receiver-in-Some-clause-text g c =
     let d = (goal.at.returns-in_err-receiver-in-Some-clause-text g c).In-Some in
     let is = named g d in
     let there = sender-there _ c.in-Some.number c.index-sender.result.now (omega (arith, is.0, is.1)) c.index-sender.ensures in
-    let p = err_from_is_err_and c.from_residual.result c.from_residual.ensures.1 in
+    let p = err_from_is_err_and c.from_residual-in_err-receiver-in-Some.result c.from_residual-in_err-receiver-in-Some.ensures.1 in
     writes_none _ _ p.0 _ p.1 p.2
     (lines-there c.plans_are_sound.ensures _ _ _ _ _ _ (block g d) there c.is_sound.ensures)
 
@@ -46,14 +46,14 @@ returns-in_err-head-in-Some-clause-text g c =
     let d = (goal.at.returns-in_err-head-in-Some-clause-text g c).In-Some in
     let is = named g d in
     let there = sender-there _ c.in-Some.number c.index-sender.result.now (omega (arith, is.0, is.1)) c.index-sender.ensures in
-    let p = err_from_is_err_and c.from_residual-in_err-head-in-Some.result c.from_residual-in_err-head-in-Some.ensures.1 in
+    let p = err_from_is_err_and c.from_residual.result c.from_residual.ensures.1 in
     writes_none _ _ p.0 _ p.1 p.2
     (lines-there c.plans_are_sound.ensures _ _ _ _ _ _ (block g d) there c.is_sound.ensures)
 
 -- the round is replayed, so the lines are those of its record
-pub returns-in_ok-head-in-Some-clause-text : goal.returns-in_ok-head-in-Some-clause-text
-returns-in_ok-head-in-Some-clause-text g c =
-    let d = (goal.at.returns-in_ok-head-in-Some-clause-text g c).In-Some in
+pub returns-in_ok-receiver-in-Some-clause-text : goal.returns-in_ok-receiver-in-Some-clause-text
+returns-in_ok-receiver-in-Some-clause-text g c =
+    let d = (goal.at.returns-in_ok-receiver-in-Some-clause-text g c).In-Some in
     let is = named g d in
     let there = sender-there _ c.in-Some.number c.index-sender.result.now (omega (arith, is.0, is.1)) c.index-sender.ensures in
     let sender = c.index-sender.result.now in
