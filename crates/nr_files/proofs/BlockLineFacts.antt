@@ -111,6 +111,13 @@ pub blocks_said-lines : (text : List ℕ) → length text ≤ 100000000 → 0 < 
 unfolding blocks_said said_behind
 blocks_said-lines text short some = rw (lines_some text some) (grind (arith, nat_tests, nat_eq, with_front-none))
 
+-- whatever a source still has, it comes behind what it gave
+pub at_more : (R : List ℕ → Type 0) (known left : Option (List ℕ)) (text : List ℕ) → Consumes known left text
+    → ((more : List ℕ) → R (text ++ more)) → IfSome known R
+at_more R None left text come holds = tt
+at_more R (Some all) None text come holds = absurd come
+at_more R (Some all) (Some left) text come holds = subst R (sym come) (holds left)
+
 -- a source at its end gave all its octets
 pub at_end : (R : List ℕ → Type 0) (known left new : Option (List ℕ)) (text buf : List ℕ) (n : ℕ)
     → Consumes known left text → Consumes left new (take n buf) × (n ≡ 0 → 0 < length buf → IsAtEnd new)

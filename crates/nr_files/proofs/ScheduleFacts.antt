@@ -2,7 +2,7 @@
 use Rattle.nr_files.proofs.Common.{◌≡◌, ◌≢◌, ℕ, ◌+◌, ◌<◌, inl, inr, Bool, Option, None, Some, Result, Ok, Err}
 use Rattle.nr_files.proofs.Common.{List, [], ◌∷◌, ◌++◌, length, sym, arith, zero, suc, ◌-◌, ◌≤◌, true, false}
 use Rattle.nr_files.proofs.Common.{cond, IfOk, All, map, take, get_or, ap, refl, ◌∙◌, append_assoc, nat_lt, nat_tests}
-use Rattle.nr_files.proofs.Common.{append-nil, Record, records_of, Timetable, schedule_of, schedule_said, timetable_of}
+use Rattle.nr_files.proofs.Common.{append-nil, Record, records_of, Timetable, schedule_of, schedule_said}
 use Rattle.nr_files.proofs.Common.{transmissions_from, ScheduleFault, Transmission, ◌==◌, ◌&&◌, range_with_len, option_map}
 use Rattle.nr_files.proofs.Common.{◌>>=◌, or_fault, field_at, text_of_field, fresh_block, round_of}
 use Rattle.nr_files.specs.Schedule.{harq_at, link_at, numbers_at, said_or, transmission_of, GoesOn, HasBlock, IsPlaced, block_in}
@@ -16,13 +16,12 @@ use Rattle.nr_streams.specs.Fields.{short_number}
 use Rattle.nr_files.specs.declared.schedule.ScheduleFault.TheVariants as fault
 
 -- a turn of the loop over the records after the header, after the transmissions of those before record k
-module _ (by_process : Bool) (blocks width k : ℕ) (front : List Transmission) (records : List Record)
-    (all : Result Timetable ScheduleFault)
-    (so_far : timetable_of by_process (with_front front (transmissions_from blocks width k front records)) ≡ all) where
+module _ (blocks width k : ℕ) (front : List Transmission) (records : List Record)
+    (all : Result (List Transmission) ScheduleFault)
+    (so_far : with_front front (transmissions_from blocks width k front records) ≡ all) where
   pub turn-ok : (rest : List Record) (r : Record) (t : Transmission) → records ≡ r ∷ rest
       → transmission_of blocks width k front r ≡ Ok t
-      → timetable_of by_process
-      (with_front (front ++ t ∷ []) (transmissions_from blocks width (k + 1) (front ++ t ∷ []) rest)) ≡ all
+      → with_front (front ++ t ∷ []) (transmissions_from blocks width (k + 1) (front ++ t ∷ []) rest) ≡ all
   unfolding transmissions_from
   turn-ok rest r t some is = rw (some, is, with_front-more front (t ∷ [])) at so_far
 
@@ -33,9 +32,17 @@ module _ (by_process : Bool) (blocks width k : ℕ) (front : List Transmission) 
   turn-refused rest r e some (inl memory) = inl memory
   turn-refused rest r e some (inr is) = inr (sym (rw (some, is) at so_far))
 
-  pub turn-end : records ≡ [] → all ≡ Ok (record { by_process = by_process; transmissions = front })
+  pub turn-end : records ≡ [] → all ≡ Ok front
   unfolding transmissions_from
   turn-end none = sym (rw (none, append-nil) at so_far)
+
+-- a fault behind a header is the schedule's
+pub headed-refused : (blocks : ℕ) (records rest : List Record) (r : Record) (e : ScheduleFault) → records ≡ r ∷ rest
+    → is_schedule_header r ≡ true → (e ≡ fault.Memory) ⊎ (transmissions_from blocks (length r) 2 [] rest ≡ Err e)
+    → (e ≡ fault.Memory) ⊎ (schedule_of blocks records ≡ Err e)
+unfolding schedule_of
+headed-refused blocks records rest r e some is (inl memory) = inl memory
+headed-refused blocks records rest r e some is (inr said) = inr (rw (some, is, said) refl)
 
 -- what a field says, or the value if there is no such column, is never this fault
 never_said : {X : Type 0} (told : ScheduleFault) (without : X) (read : List ℕ → Result X ScheduleFault) (o : Option (List ℕ))

@@ -17,9 +17,7 @@ mod settings;
 
 pub use blocks::{BlocksFault, read_blocks};
 pub use erasure::{Erasure, PlaceList, PlaceRange, Places, erased, named};
-pub use place_fields::{erasure_of, mask_of, places_of};
+pub use place_fields::mask_of;
 pub use rounds::{Round, blocks_are_rounds, goes_on, round_of};
-pub use schedule::{
-    PROCESSES, Schedule, ScheduleFault, Transmission, parse_schedule, read_schedule,
-};
-pub use settings::{SettingsFault, parse_settings, read_settings};
+pub use schedule::{PROCESSES, Schedule, ScheduleFault, Transmission, read_schedule};
+pub use settings::{SettingsFault, read_settings};

@@ -105,7 +105,7 @@ fn place_list(alloc: Global, text: &[u8]) -> Result<Option<PlaceList>, AllocErro
 ///
 /// `AllocError` if memory runs out.
 #[tactic(auto, unfolding(crate::specs::PlaceLists::places_of))]
-pub fn places_of(alloc: Global, text: &[u8]) -> Result<Option<Places>, AllocError>
+pub(crate) fn places_of(alloc: Global, text: &[u8]) -> Result<Option<Places>, AllocError>
     ensures { IfOk result (λ places. places ≡ places_of text.now) }
 {
     if text == b"-".as_slice() {
@@ -127,7 +127,7 @@ pub fn places_of(alloc: Global, text: &[u8]) -> Result<Option<Places>, AllocErro
 ///
 /// `AllocError` if memory runs out.
 #[tactic(auto, unfolding(crate::specs::PlaceLists::erasure_of))]
-pub fn erasure_of(alloc: Global, text: &[u8]) -> Result<Option<Erasure>, AllocError>
+pub(crate) fn erasure_of(alloc: Global, text: &[u8]) -> Result<Option<Erasure>, AllocError>
     ensures { IfOk result (λ erasure. erasure ≡ erasure_of text.now) }
 {
     if text.starts_with(b"pcg:") {
@@ -150,8 +150,8 @@ fn drawn_of(text: &[u8]) -> Option<Erasure>
 }
 
 /// Returns the code blocks that a field schedules (TS 38.212, 5.4.2.1): all of them for `all`, or those of a place list
-/// as `places_of` reads it, counted from 0; numbers from 384 on are ignored. For any other text, `-` among them, the
-/// result is `None`.
+/// as `read_schedule` describes it, counted from 0; numbers from 384 on are ignored. For any other text, `-`
+/// among them, the result is `None`.
 ///
 /// # Errors
 ///

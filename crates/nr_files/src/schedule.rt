@@ -1,10 +1,12 @@
 //! The schedule file, with one transmission per record, and the reasons why it is rejected.
 
-ghost use Rattle.std.specs.Prelude.{◌≡◌, ◌^◌, ◌<◌, ◌≤◌, true, All, IfOk, IfSome, IsErrOf, length, map};
-ghost use Rattle.std.specs.List.{range_with_len};
+ghost use Rattle.std.specs.Prelude.{◌≡◌, ◌+◌, ◌^◌, ◌<◌, ◌≤◌, true, All, IfOk, IfSome, IsErrOf, length, map};
+ghost use Rattle.std.specs.{List.range_with_len, Prelude.[]};
+ghost use Rattle.csv.specs.Records.{fields_of};
 ghost use Rattle.nr_refusal.specs.Refusal.{Gives, FailsAs};
 ghost use Rattle.nr_streams.specs.{Records.records_of, Source.TookAtMost};
 ghost use Rattle.nr_files.specs.Schedule.{EachGoesOn, HasBlock, IsPlaced, schedule_of, schedule_said, timetable_by};
+ghost use Rattle.nr_files.specs.Schedule.{transmissions_from};
 
 mod columns;
 mod record;
@@ -124,10 +126,24 @@ pub struct Schedule {
 
 /// Reads a schedule file to its end and checks it against the number of transport blocks.
 ///
+/// Record 1 is the header `block,rv,g,qm,nl,erase`, optionally followed by `flip`, then optionally by `mask`, and then
+/// optionally by both `process` and `fresh`. Each other record is a transmission, and there are at most 4,096. Spaces
+/// and tabs at the ends of a field are ignored. `block` is the number of a block. `rv`, `g`, `qm` and `nl` are numbers
+/// of 32 bits, whose values are not checked here. `process` is a number below 16, and `fresh` is `0` or `1`. Without
+/// these columns no place is flipped, all code blocks are scheduled, and each block has a process to itself, without a
+/// new-data indicator.
+///
+/// `flip` is `-` (no place), `all`, or a list of places: items separated by one space, each of which is a place `m` or
+/// a range `m-n` with m at most n. Places are counted from 0, and each number has 1 to 10 decimal digits. `erase` is
+/// one of these or `pcg:seed:threshold`, whose seed has 64 bits in 1 to 20 decimal digits, and whose threshold has 32
+/// bits in 1 to 10. `mask` is `all` or a list of code blocks (TS 38.212, 5.4.2.1), of which those from 384 on are
+/// ignored.
+///
 /// # Errors
 ///
-/// `Read` if a pull fails or `TooLong` at more than 16,777,216 octets, whichever is met first; then those of
-/// `parse_schedule`.
+/// `Read` if a pull fails or `TooLong` at more than 16,777,216 octets, whichever is met first; then `Header`; then,
+/// record by record, `Csv`, `TooMany`, `Number`, `Block`, `Erase`, `Flip`, `Mask`, `Process`, `Fresh`. `Memory` if
+/// memory runs out.
 pub fn read_schedule<S: Source>(
     alloc: Global,
     blocks: u32,
@@ -159,20 +175,8 @@ pub fn read_schedule<S: Source>(
     parse_schedule(alloc, blocks, &octets)
 }
 
-/// Reads the text of a schedule file for `blocks` transport blocks.
-///
-/// Record 1 is the header `block,rv,g,qm,nl,erase`, optionally followed by `flip`, then optionally by `mask`, and then
-/// optionally by both `process` and `fresh`. Each other record is a transmission, and there are at most 4,096. Spaces
-/// and tabs at the ends of a field are ignored. `block` is the number of a block. `rv`, `g`, `qm` and `nl` are numbers
-/// of 32 bits, whose values are not checked here. `erase` is read by `erasure_of`, `flip` by `places_of` and `mask` by
-/// `mask_of`. `process` is a number below 16, and `fresh` is `0` or `1`. Without these columns no place is flipped, all
-/// code blocks are scheduled, and each block has a process to itself, without a new-data indicator.
-///
-/// # Errors
-///
-/// In this order: `TooLong`; `Header`; then, record by record, `Csv`, `TooMany`, `Number`, `Block`, `Erase`, `Flip`,
-/// `Mask`, `Process`, `Fresh`. `Memory` if memory runs out.
-pub fn parse_schedule(alloc: Global, blocks: u32, text: &[u8]) -> Result<Schedule, ScheduleFault>
+// The transmissions of a text for this many transport blocks, with what holds of them.
+fn parse_schedule(alloc: Global, blocks: u32, text: &[u8]) -> Result<Schedule, ScheduleFault>
     ensures said { Gives ScheduleFault.Memory timetable_by result
         (schedule_said blocks text.now) }
     ensures few { IfOk result (λ s. length s.transmissions.items ≤ 4096) }
@@ -199,7 +203,8 @@ fn judged(alloc: Global, blocks: u32, text: &[u8]) -> Result<Schedule, ScheduleF
     read_records(alloc, blocks, text)
 }
 
-// The transmissions, record by record.
+// The transmissions, record by record. Each function owns what a refusal lets go of: records and row, then the
+// transmissions so far, then a single one.
 fn read_records(alloc: Global, blocks: u32, text: &[u8]) -> Result<Schedule, ScheduleFault>
     requires { length text.now < 2 ^ 32 }
     ensures { Gives ScheduleFault.Memory timetable_by result
@@ -207,23 +212,53 @@ fn read_records(alloc: Global, blocks: u32, text: &[u8]) -> Result<Schedule, Sch
 {
     let mut records = Records::new(alloc, text);
     let mut row = ByteRecord::new(alloc);
-    if !records.next(&mut row)? {
+    schedule_in(alloc, blocks, &mut records, &mut row)
+}
+
+// What records say: a header, and a transmission each.
+fn schedule_in(
+    alloc: Global,
+    blocks: u32,
+    records: &mut Records,
+    row: &mut ByteRecord,
+) -> Result<Schedule, ScheduleFault>
+    requires { length records.old < 2 ^ 32 }
+    ensures { Gives ScheduleFault.Memory timetable_by result (schedule_of blocks records.old) }
+{
+    if !records.next(row)? {
         return Err(ScheduleFault::Header);
     }
-    if !is_header(&row) {
+    if !is_header(row) {
         return Err(ScheduleFault::Header);
     }
-    let width = row.len();
-    let by_process = has_column(&row, b"process");
+    let by_process = has_column(row, b"process");
     let mut earlier = Earlier::new(alloc);
-    let mut number = 1;
-    while records.next(&mut row)? {
-        number += 1;
-        let transmission = transmission_of(alloc, blocks, width, number, &earlier, &row)?;
-        earlier.push(transmission)?;
-    }
+    read_transmissions(alloc, blocks, records, row, &mut earlier)?;
     Ok(Schedule {
         by_process,
         transmissions: earlier.transmissions,
     })
+}
+
+// Adds the transmission of each record behind a header, which is in `row`.
+fn read_transmissions(
+    alloc: Global,
+    blocks: u32,
+    records: &mut Records,
+    row: &mut ByteRecord,
+    earlier: &mut Earlier,
+) -> Result<(), ScheduleFault>
+    requires few { length records.old + 1 < 2 ^ 32 }
+    requires none { earlier.old.transmissions.items ≡ [] }
+    ensures { Gives ScheduleFault.Memory (λ _. earlier.new.transmissions.items) result
+        (transmissions_from blocks (length (fields_of row.old)) 2 [] records.old) }
+{
+    let width = row.len();
+    let mut number = 1;
+    while records.next(row)? {
+        number += 1;
+        let transmission = transmission_of(alloc, blocks, width, number, earlier, row)?;
+        earlier.push(transmission)?;
+    }
+    Ok(())
 }

@@ -105,15 +105,8 @@ fn settings_of(table: &Table) -> Result<Settings, SettingsFault>
     Ok(Settings { rate2048, lbrm })
 }
 
-/// Reads the text of a settings file: TOML with the integer `rate2048`, which is the target code rate times 2048,
-/// 1..=2048. If the circular buffer is limited, it also has the integer `lbrm`, which is TBS_LBRM in bits (TS 38.212,
-/// 5.4.2.1), 0..=4,294,967,295.
-///
-/// # Errors
-///
-/// In this order: `TooLong`; `Toml`; `Unknown`; `Missing`; `Kind` and `Range` of `rate2048`; `Kind` and `Range` of
-/// `lbrm`. `Memory` if memory runs out.
-pub fn parse_settings(alloc: Global, text: &[u8]) -> Result<Settings, SettingsFault>
+// The settings of a text.
+fn parse_settings(alloc: Global, text: &[u8]) -> Result<Settings, SettingsFault>
     ensures { Gives SettingsFault.Memory (λ settings. settings) result (settings_said text.now) }
 {
     if text.len() > MOST_OCTETS {
@@ -126,11 +119,14 @@ pub fn parse_settings(alloc: Global, text: &[u8]) -> Result<Settings, SettingsFa
     }
 }
 
-/// Reads a settings file to its end and checks it.
+/// Reads a settings file to its end and checks it: TOML with the integer `rate2048`, which is the target code rate times
+/// 2048, 1..=2048. If the circular buffer is limited, it also has the integer `lbrm`, which is TBS_LBRM in bits (TS
+/// 38.212, 5.4.2.1), 0..=4,294,967,295.
 ///
 /// # Errors
 ///
-/// `Read` if a pull failed or `TooLong`, whichever is met first; then those of [`parse_settings`].
+/// `Read` if a pull failed or `TooLong`, whichever is met first; then `Toml`; `Unknown`; `Missing`; `Kind` and `Range`
+/// of `rate2048`; `Kind` and `Range` of `lbrm`. `Memory` if memory runs out.
 pub fn read_settings<S: Source>(alloc: Global, source: &mut S) -> Result<Settings, SettingsFault>
     requires { S.failures source.old < 2 ^ 32 }
     ensures said { S.failures source.new ≡ S.failures source.old → IfSome (S.remaining source.old)

@@ -1,7 +1,7 @@
-use Rattle.nr_files.proofs.Common.{[], Err, ap, ◌∙◌, ◌<◌, ◌++◌, ℕ, append-nil, append_assoc, length, length-append}
+use Rattle.nr_files.proofs.Common.{[], Err, ap, ◌∙◌, ◌++◌, ℕ, append-nil, append_assoc, length-append}
 use Rattle.nr_files.proofs.Common.{length-take-le, take, inl, inr, refl, arith, err_from_is_err_and, blocks_said}
 use Rattle.nr_files.proofs.RefusalFacts.{fails_as-never, gives-memory}
-use Rattle.nr_files.proofs.BlockLineFacts.{at_end, blocks_said-empty, blocks_said-lines, blocks_said-too_long}
+use Rattle.nr_files.proofs.BlockLineFacts.{at_end, at_more, blocks_said-empty, blocks_said-lines, blocks_said-too_long}
 use Rattle.std.proofs.KnownBytes.{Consumes-kept, Consumes-nil, Consumes-trans}
 use Rattle.nr_streams.proofs.FailureFacts.{broken-counted}
 use Rattle.nr_files.proofs.blocks.read_blocks.Goals as goal
@@ -34,9 +34,13 @@ returns-then-count-length-clause-said g c same =
     let come = c.loop-count.invariant.come in
     let piece = take c.in-Ok.count c.pull.new.buf in
     let all = Consumes-trans _ _ _ _ _ come.1 c.in-Ok.ensures.octets.0 in
-    let long : 100000000 < length (come.0 ++ piece) =
-    omega (arith, length-append come.0 piece, length-take-le c.in-Ok.count c.pull.new.buf c.in-Ok.ensures.within, come.2) in
-    grind (arith, length-append, blocks_said-too_long, all, long)
+    at_more _ _ _ _ all (λ more. inr (blocks_said-too_long _ (omega (
+      arith,
+      length-append (come.0 ++ piece) more,
+      length-append come.0 piece,
+      length-take-le c.in-Ok.count c.pull.new.buf c.in-Ok.ensures.within,
+      come.2,
+    ))))
 
 pub returns-in_err-push-clause-said : goal.returns-in_err-push-clause-said
 returns-in_err-push-clause-said g c same =
@@ -56,20 +60,20 @@ loop-count-preserved g c =
         omega (arith, length-append come.0 piece, length-take-le c.in-Ok.count c.pull.new.buf c.in-Ok.ensures.within, come.2),
         λ more. c.in_ok-push.ensures _ more (rw (← append_assoc) at (come.3 (piece ++ more))),
       );
-      sound = grind arith;
-      room = grind arith;
+      sound = omega (arith, c.in-Ok.ensures.broken, c.loop-count.invariant.sound);
+      room = omega arith;
     }
 
 pub returns-then-length-eq0-clause-said : goal.returns-then-length-eq0-clause-said
 returns-then-length-eq0-clause-said g c same =
     let come = c.loop-count.invariant.come in
-    at_end _ _ _ _ come.0 _ _ come.1 c.in-Ok.ensures.octets c.if-count-eq0.true (grind arith)
+    at_end _ _ _ _ come.0 _ _ come.1 c.in-Ok.ensures.octets c.if-count-eq0.true (omega arith)
     (inr (blocks_said-empty come.0 (omega (arith, come.2))))
 
 pub returns-clause-said : goal.returns-clause-said
 returns-clause-said g c same =
     let come = c.loop-count.invariant.come in
-    at_end _ _ _ _ come.0 _ _ come.1 c.in-Ok.ensures.octets c.if-count-eq0.true (grind arith)
+    at_end _ _ _ _ come.0 _ _ come.1 c.in-Ok.ensures.octets c.if-count-eq0.true (omega arith)
     (rw (blocks_said-lines come.0 (omega (arith, come.2)) (omega (arith, come.2)))
     (c.finish.ensures.said _ (rw (append-nil, append-nil) at (come.3 []))))
 
