@@ -1,6 +1,6 @@
 use Rattle.nr_peel.proofs.Common.{rows_most, cond-most, if◌then◌else◌, nat_tests, Bool, ◌≤◌, ◌-◌, due_in, bit}
 use Rattle.nr_peel.proofs.Common.{◌≡◌, ℕ, ◌+◌, ◌*◌, ◌<◌, ◌==◌, true, length, sym, ap, ◌∙◌, arith}
-use Rattle.nr_peel.proofs.Common.{slice_index, eqb-true, is_set, marked_count, marked-same, has_count, missing_at, HasRoom}
+use Rattle.nr_peel.proofs.Common.{slice_index, eq-eqb, eqb-true, is_set, marked_count, marked-same, has_count, missing_at, HasRoom}
 use Rattle.nr_peel.proofs.{DueBlockFacts.search_cost, LaneMarkFacts.none_marked, RowEntryFacts.column_fits, RowEntryFacts.entry_in}
 use Rattle.nr_peel.proofs.EntryTakeFacts.{HasOnes, some_entry, sought_none, taking_done, taking_entry, taking_more, taking_room}
 use Rattle.nr_peel.proofs.EntryTakeFacts.{taking_seen, taking_start}
@@ -11,7 +11,12 @@ use Rattle.nr_peel.proofs.bit_parallel.lanes.Lanes.search_block.Goals as goal
 -- each row of the lane has a count of one
 one : (g : given.Over) (c : After-lane_count g) (t : ℕ) → t < c.args.lifted.now.plan.z → is_set c.ones-ones.result t ≡ true
     → slice_index c.args.counts.now.items (c.args.i * c.args.lifted.now.plan.z + t) ≡ 1
-one g c t below there = grind (arith, c.ones-ones.ensures.ones t, eqb-true)
+one g c t below there = eqb-true _ 1 (sym ((rw c.requires.same at c.ones-ones.ensures.ones) t below) ∙ there)
+
+-- and no other row has
+all : (g : given.Over) (c : After-lane_count g) (t : ℕ) → t < c.args.lifted.now.plan.z
+    → slice_index c.args.counts.now.items (c.args.i * c.args.lifted.now.plan.z + t) ≡ 1 → is_set c.ones-ones.result t ≡ true
+all g c t below is = (rw c.requires.same at c.ones-ones.ensures.ones) t below ∙ eq-eqb _ 1 is
 
 -- and so one position that isn't known
 read : (g : given.Over) (c : After-lane_count g) → HasOnes c.args.lifted.now c.args.i c.ones-ones.result c.args.self.now
@@ -85,10 +90,46 @@ returns-then-lane_count-eq0-clause-sought g c =
 pub returns-then-lane_count-eq0-clause-ones : goal.returns-then-lane_count-eq0-clause-ones
 returns-then-lane_count-eq0-clause-ones g c = one g (goal.at.returns-then-lane_count-eq0-clause-ones g c).After-lane_count
 
+pub returns-then-lane_count-eq0-clause-all : goal.returns-then-lane_count-eq0-clause-all
+returns-then-lane_count-eq0-clause-all g c = all g (goal.at.returns-then-lane_count-eq0-clause-all g c).After-lane_count
+
+pub returns-then-lane_count-eq0-clause-clear : goal.returns-then-lane_count-eq0-clause-clear
+returns-then-lane_count-eq0-clause-clear g c = rw c.requires.same at c.ones-ones.ensures.clear
+
+pub returns-then-lane_count-eq0-clause-operations : goal.returns-then-lane_count-eq0-clause-operations
+returns-then-lane_count-eq0-clause-operations g c =
+    let at = (goal.at.returns-then-lane_count-eq0-clause-operations g c).After-lane_count in
+    let nothing : marked_count (is_set c.ones-ones.result) c.args.lifted.now.plan.z ≡ 0 =
+    omega (arith, counted g at, c.if-lane_count-eq0.true) in
+    rw nothing (omega (arith, c.ones-ones.ensures.operations))
+
+pub returns-then-lane_count-eq0-clause-worked : goal.returns-then-lane_count-eq0-clause-worked
+returns-then-lane_count-eq0-clause-worked g c =
+    let at = (goal.at.returns-then-lane_count-eq0-clause-worked g c).After-lane_count in
+    let nothing : marked_count (is_set c.ones-ones.result) c.args.lifted.now.plan.z ≡ 0 =
+    omega (arith, counted g at, c.if-lane_count-eq0.true) in
+    omega (arith, (rw c.requires.same at c.ones-ones.ensures.paid) nothing)
+
 -- a row block that is searched
 
 pub returns-clause-ones : goal.returns-clause-ones
 returns-clause-ones g c = one g (goal.at.returns-clause-ones g c).After-lane_count
+
+pub returns-clause-all : goal.returns-clause-all
+returns-clause-all g c = all g (goal.at.returns-clause-all g c).After-lane_count
+
+pub returns-clause-clear : goal.returns-clause-clear
+returns-clause-clear g c = rw c.requires.same at c.ones-ones.ensures.clear
+
+pub returns-clause-none : goal.returns-clause-none
+returns-clause-none g c = λ nothing. absurd
+    (omega (arith, nothing, counted g (goal.at.returns-clause-none g c).After-lane_count, c.if-lane_count-eq0.false))
+
+pub returns-clause-counts : goal.returns-clause-counts
+returns-clause-counts g c = ap (λ s. s.items) c.count_operations.ensures ∙ c.ones-ones.ensures.items
+
+pub returns-clause-lanes : goal.returns-clause-lanes
+returns-clause-lanes g c = ap (λ s. s.lanes) c.count_operations.ensures ∙ c.ones-ones.ensures.lanes
 
 pub returns-clause-sought : goal.returns-clause-sought
 returns-clause-sought g c =
