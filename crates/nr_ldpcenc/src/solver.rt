@@ -22,7 +22,7 @@ use nr_segment::Plan;
 use nr_shifttable::Table;
 
 // The set index of a plan's lifting size.
-pub fn set_in(plan: &Plan) -> u32
+pub(crate) fn set_in(plan: &Plan) -> u32
     ensures value { result ≡ plan.now.set }
     ensures below { result < 8 }
 {
