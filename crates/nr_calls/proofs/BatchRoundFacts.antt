@@ -8,7 +8,8 @@ use Rattle.nr_calls.proofs.Common.{drawn_round, drawn_txs, erased_counts, simula
 use Rattle.nr_calls.proofs.{Common.AreAccepted, Common.drawn_reception, Common.Batch, Common.NrTx, PlaceCountFacts.entry-more}
 use Rattle.nr_calls.specs.Simulating.{delivered_within, erased_row, left_row, simulation}
 use Rattle.nr_calls.proofs.DrawnRoundFacts.{counts-at, heard-more, own, round-marked}
-use Rattle.nr_calls.proofs.SimulationFacts.{HasCome, Laws, heard-come, rows-more}
+use Rattle.nr_calls.{specs.inside.Batches.HasCome, proofs.SimulationFacts.Laws, proofs.SimulationFacts.heard-come}
+use Rattle.nr_calls.proofs.SimulationFacts.{rows-more}
 use Rattle.std.{proofs.Math.Seq.take-take, proofs.lemmas.List.drop-take, specs.List.flat_map}
 
 -- the seeds of round j

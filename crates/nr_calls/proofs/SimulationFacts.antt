@@ -25,7 +25,7 @@ use Rattle.nr_blockdesk.specs.Sent.{AcceptedSendAll, sent}
 use Rattle.nr_blockdesk.specs.declared.heard.Heard.{Heard}
 use Rattle.nr_transmission.specs.declared.tx.Tx.{Tx}
 use Rattle.nr_calls.specs.Findings.{lefts}
-use Rattle.nr_calls.specs.inside.Simulating.{drawn_reception}
+use Rattle.nr_calls.specs.inside.{Batches.HasCome, Simulating.drawn_reception}
 use Rattle.nr_calls.specs.Simulating.{Simulation, arrived, delivered_within, erased_counts, erased_in, erased_row, is_handed_up}
 use Rattle.nr_calls.specs.Simulating.{left_row, row_unless, simulated}
 use Rattle.nr_calls.proofs.AcceptedFacts.{accepted-places}
@@ -190,13 +190,6 @@ within-more link block round k =
     ap (first_of p 1) count
     ∙ subst (λ m. first_of p 1 (suc k) ≡ (if first_of p 1 k == 0 then (if p m then m else 0) else first_of p 1 k)) next
     (first-more k p 1 (omega arith))
-
--- the result of the first k transmissions of a round: after how many the block was delivered, and the rows so far
-pub record HasCome (link : Link) (block : List Bool) (round : List (Tx × List Bool)) (k delivered : ℕ)
-    (lefts_before erased_before left erased : List ℕ) : Type 0 where
-  pub delivered_is : delivered ≡ delivered_within link block round k
-  pub left_is : left ≡ lefts_before ++ flat_map (left_row link block round) (range_with_len 0 k)
-  pub erased_is : erased ≡ erased_before ++ flat_map (erased_row link block round) (range_with_len 0 k)
 
 pub none-come : (link : Link) (block : List Bool) (round : List (Tx × List Bool)) (left erased : List ℕ)
     → HasCome link block round 0 0 left erased left erased

@@ -5,12 +5,12 @@ ghost use Rattle.std.specs.Prelude.{ℕ, false, true, not, Bool, List, flat_map}
 ghost use Rattle.std.specs.Prelude.{if◌then◌else◌, length, map, slice_index, IfErr, IfOk, IsOk, IsTrue, OnOk};
 ghost use Rattle.std.specs.List.{range_with_len};
 ghost use Rattle.nr_bitvec.specs.Bit.{bit};
-ghost use Rattle.nr_drawing.specs.Drawing.{AreRounds, IsAmong, places_drawn};
+ghost use Rattle.nr_drawing.specs.Drawing.{AreRounds, IsAmong, places_drawn, seeded};
 ghost use Rattle.nr_blockdesk.specs.Explains.{Reception};
 ghost use Rattle.nr_blockdesk.specs.Link.{IsBlock};
 ghost use Rattle.nr_blockdesk.specs.Sent.{tx_said};
 ghost use Rattle.nr_calls.specs.Simulating.{delivered_within, drawn_round, erased_row, left_row};
-ghost use Rattle.nr_calls.specs.inside.Batches.{AreBetween, AreWhole, Hears, PassesBy, column, words_in};
+ghost use Rattle.nr_calls.specs.inside.Batches.{AreBetween, AreWhole, HasCome, Hears, PassesBy, column, words_in};
 ghost use Rattle.nr_calls.specs.inside.Simulating.{AreAccepted};
 
 use crate::crossing::NrTx;
@@ -20,6 +20,7 @@ use crate::side::{begun, fit, hear_block};
 use arrayvec::ArrayVec;
 use nr_blockdesk::{Link, Tx};
 use nr_drawing::side_by_side;
+use rand_pcg::Pcg32;
 use std::alloc::{AllocError, Global};
 
 // The most rounds side by side: a word has so many bits.
@@ -120,20 +121,48 @@ impl Batch {
             → PassesBy link.now.plan.c j self.old self.new) }
         ensures err { IfErr result (λ fault. fault ≡ Fault.Memory) }
     {
-        let shares = shares_of(link, tx)?;
         let mut generators = side_by_side(alloc, seeds)?;
         let mut arrived = Vec::new(alloc);
+        self.hear_blocks(link, tx, threshold, &mut generators, listed, &mut arrived)
+    }
+
+    // The same of one code block after the other, with generators that begin with the seeds. It stands apart from what makes
+    // them, so that a refusal has nothing to drop.
+    fn hear_blocks(
+        &mut self,
+        link: &Link<'_>,
+        tx: &Tx,
+        threshold: u32,
+        generators: &mut Vec<Pcg32>,
+        listed: &[usize],
+        arrived: &mut Vec<u64>,
+    ) -> Result<[bool; 64], Fault>
+        requires said { IsOk (tx_said link.now tx.now) }
+        requires listed { AreRounds listed.now }
+        requires whole { AreWhole link.now (words_in self.old) }
+        requires all { length generators.old.items ≡ 64 }
+        ensures whole { OnOk result (AreWhole link.now (words_in self.new)) }
+        ensures still { OnOk result (self.new.delivered ≡ self.old.delivered) }
+        ensures hears { (seeds : List ℕ) → generators.old.items ≡ map seeded seeds
+            → IfOk result (λ going. (j : ℕ) (list : List Reception) → IsAmong listed.now j
+            → slice_index self.old.delivered j ≡ 0 → AreBetween link.now list j (words_in self.old)
+            → Hears link.now list (tx.now, places_drawn (slice_index seeds j) threshold tx.now.g) j
+            (not (bit going j)) self.old self.new) }
+        ensures passes { OnOk result ((j : ℕ) → j < 64 → (slice_index self.old.delivered j == 0) ≡ false
+            → PassesBy link.now.plan.c j self.old self.new) }
+        ensures err { IfErr result (λ fault. fault ≡ Fault.Memory) }
+    {
+        let shares = shares_of(link, tx)?;
         let mut going = [false; 64];
         for r in 0..shares.len() {
-            let share = shares[r] as usize;
-            fit(&mut arrived, share)?;
+            fit(arrived, shares[r] as usize)?;
             let (erased, left) = hear_block(
                 link,
                 tx,
                 threshold,
-                &mut generators,
+                generators,
                 listed,
-                &mut arrived,
+                arrived,
                 &mut self.known[r],
             );
             self.push(&left, &erased)?;
@@ -228,6 +257,48 @@ fn push_all(batch: &Batch, count: usize, rounds: &mut Rounds) -> Result<(), Allo
     Ok(())
 }
 
+impl Batch {
+    // The first rounds hear the transmissions in turn, each until its block is delivered.
+    fn hear_all(
+        &mut self,
+        alloc: Global,
+        link: &Link<'_>,
+        txs: &[NrTx],
+        thresholds: &[u32],
+        seeds: &[u64],
+        count: usize,
+    ) -> Result<(), Fault>
+        requires accepted { AreAccepted link.now txs.now }
+        requires few { length txs.now ≤ 1000 }
+        requires thresholds { length thresholds.now ≡ length txs.now }
+        requires rounds { count ≤ 64 }
+        requires seeds { length seeds.now ≡ count * length txs.now }
+        requires whole { AreWhole link.now (words_in self.old) }
+        requires between { (j : ℕ) → j < 64 → AreBetween link.now [] j (words_in self.old) }
+        requires fresh { (j : ℕ) → slice_index self.old.delivered j ≡ 0 }
+        requires left { self.old.left.items ≡ [] }
+        requires erased { self.old.erased.items ≡ [] }
+        ensures come { OnOk result ((j : ℕ) (block : List Bool) → j < count → IsBlock link.now block
+            → HasCome link.now block (drawn_round txs.now thresholds.now seeds.now j) (length txs.now)
+            (slice_index self.new.delivered j) [] [] (column self.new.left.items j) (column self.new.erased.items j)) }
+        ensures err { IfErr result (λ fault. fault ≡ Fault.Memory) }
+    {
+        laws_of_rounds();
+        link.is_sound();
+        for k in 0..txs.len() {
+            let listed = open_rounds(&self.delivered, count);
+            if listed.is_empty() {
+                self.pass(link.plan().c)?;
+            } else {
+                let own = seeds_of(seeds, k, txs.len(), count);
+                let going = self.hear(alloc, link, &txs[k].tx(), thresholds[k], &own, &listed)?;
+                deliver(&mut self.delivered, &going, k as u32 + 1);
+            }
+        }
+        Ok(())
+    }
+}
+
 // Hears up to 64 rounds, each until the block is delivered. Each has seeds of its own, one for each transmission.
 pub(crate) fn hear_batch(
     alloc: Global,
@@ -257,19 +328,8 @@ pub(crate) fn hear_batch(
         (range_with_len 0 (length txs.now))) (range_with_len 0 count)) }
     ensures err { IfErr result (λ fault. fault ≡ Fault.Memory) }
 {
-    laws_of_rounds();
-    link.is_sound();
     let mut batch = Batch::begin(alloc, link, txs.len())?;
-    for k in 0..txs.len() {
-        let listed = open_rounds(&batch.delivered, count);
-        if listed.is_empty() {
-            batch.pass(link.plan().c)?;
-        } else {
-            let own = seeds_of(seeds, k, txs.len(), count);
-            let going = batch.hear(alloc, link, &txs[k].tx(), thresholds[k], &own, &listed)?;
-            deliver(&mut batch.delivered, &going, k as u32 + 1);
-        }
-    }
+    batch.hear_all(alloc, link, txs, thresholds, seeds, count)?;
     push_all(&batch, count, rounds)?;
     Ok(())
 }

@@ -1,12 +1,15 @@
 //! Joining the code blocks of a transport block.
 
-ghost use Rattle.std.specs.Prelude.{◌≡◌, ◌*◌, ◌<◌, ◌≤◌, length, IfOk, MatchResult, Ok, Err};
+ghost use Rattle.std.specs.Prelude.{◌≡◌, ◌*◌, ◌<◌, ◌≤◌, [], flat_map, length, map, take};
+ghost use Rattle.std.specs.Prelude.{IfOk, OnOk, MatchResult, Ok, Err};
 ghost use Rattle.nr_crcattach.specs.Attachment.{attached_length};
-ghost use Rattle.nr_segment.specs.CodeBlock.{numbers};
+ghost use Rattle.nr_segment.specs.CodeBlock.{numbers, share};
+ghost use Rattle.nr_calls.specs.Codeword.{is_one};
 ghost use Rattle.nr_calls.specs.Crossing.{AreBits};
 ghost use Rattle.nr_calls.specs.Joining.{AreJoined, blocks_in, end_poly, has_crc, join_places, joined_of, joined_said};
 ghost use Rattle.nr_calls.specs.Joining.{joining_said};
 ghost use Rattle.nr_calls.specs.inside.Joinings.{joined_by};
+ghost use Rattle.nr_calls.specs.Many.{first_rows};
 ghost use Rattle.nr_calls.specs.Statuses.{Returns, memory_last};
 
 use crate::codeword::{are_bits, ones};
@@ -18,6 +21,7 @@ use arrayvec::ArrayVec;
 use nr_bitvec::Bits;
 use nr_blockdesk::DeskFault;
 use nr_crcattach::{Poly, divides};
+use nr_ratematch::MOST_BLOCKS;
 use nr_segment::Plan;
 use std::alloc::{AllocError, Global};
 
@@ -101,6 +105,34 @@ fn has_crc(poly: Poly, bits: &Bits) -> bool
     divides(poly, bits)
 }
 
+// Puts the shares of code blocks into an empty list. Whether the CRC at the end of each passes.
+fn join_shares(
+    alloc: Global,
+    plan: &Plan,
+    poly: Poly,
+    octets: &[u8],
+    bits: &mut Bits,
+) -> Result<ArrayVec<bool, MOST_BLOCKS>, AllocError>
+    requires long { length octets.now ≡ plan.now.c * plan.now.kdash }
+    requires none { bits.old.items ≡ [] }
+    requires room { plan.now.b ≤ bits.old.room }
+    ensures bits { OnOk result (bits.new.items ≡ flat_map (λ row. take (share (numbers plan.now)) (map is_one row))
+        (first_rows plan.now.kdash plan.now.c octets.now)) }
+    ensures passed { IfOk result (λ passed. passed.items ≡ map (λ row. has_crc poly (map is_one row))
+        (first_rows plan.now.kdash plan.now.c octets.now)) }
+    ensures long { OnOk result (length bits.new.items ≡ plan.now.c * share (numbers plan.now)) }
+{
+    let size = plan.kdash as usize;
+    let share = (plan.kdash - plan.l) as usize;
+    let mut passed = ArrayVec::new();
+    for r in 0..plan.c as usize {
+        let row = ones(alloc, &octets[r * size..r * size + size])?;
+        bits.extend_range(&row, 0, share);
+        passed.push(has_crc(poly, &row));
+    }
+    Ok(passed)
+}
+
 // What code blocks come to, of which octets have a bit each.
 fn join_rows(alloc: Global, plan: &Plan, a: u32, octets: &[u8]) -> Result<JoinedBlocks, AllocError>
     requires whole { plan.now.b ≡ attached_length a }
@@ -110,16 +142,8 @@ fn join_rows(alloc: Global, plan: &Plan, a: u32, octets: &[u8]) -> Result<Joined
     ensures passed { IfOk result (λ joined. length joined.passed.items ≡ plan.now.c) }
     ensures block { IfOk result (λ joined. length joined.block.items ≡ a) }
 {
-    let poly = end_poly(plan, a);
-    let size = plan.kdash as usize;
-    let share = (plan.kdash - plan.l) as usize;
     let mut bits = Bits::with_room(alloc, plan.b)?;
-    let mut passed = ArrayVec::new();
-    for r in 0..plan.c as usize {
-        let row = ones(alloc, &octets[r * size..r * size + size])?;
-        bits.extend_range(&row, 0, share);
-        passed.push(has_crc(poly, &row));
-    }
+    let passed = join_shares(alloc, plan, end_poly(plan, a), octets, &mut bits)?;
     let block_passed = has_crc(Poly::of_block(a as usize), &bits);
     let block = bits.copy_range(0, a as usize)?;
     Ok(JoinedBlocks {

@@ -1,7 +1,7 @@
 -- Rounds side by side: bit j of a word is round j's, and number j of a row.
 use Rattle.std.specs.Prelude.{◌≡◌, ℕ, ◌<◌, ◌++◌, ◌∷◌, [], ◌==◌, Bool, List, length, map}
 use Rattle.std.specs.Prelude.{slice_index, slice_index_or, replicate}
-use Rattle.std.specs.List.{list_all, range_with_len}
+use Rattle.std.specs.List.{flat_map, list_all, range_with_len}
 use Rattle.nr_peel.specs.Slices.{slice}
 use Rattle.nr_blockdesk.specs.Explains.{Reception}
 use Rattle.nr_blockdesk.specs.Heard.{heard_record}
@@ -14,7 +14,7 @@ use Rattle.nr_segment.specs.Plan.{word_size}
 use Rattle.nr_segment.specs.declared.Plan.{Plan}
 use Rattle.nr_transmission.specs.declared.tx.Tx.{Tx}
 use Rattle.nr_calls.specs.Findings.{lefts}
-use Rattle.nr_calls.specs.Simulating.{erased_counts, erased_in}
+use Rattle.nr_calls.specs.Simulating.{delivered_within, erased_counts, erased_in, erased_row, left_row}
 use Rattle.nr_calls.specs.inside.Simulating.{drawn_reception}
 use Rattle.nr_calls.specs.declared.batch.Batch.{Batch}
 
@@ -66,3 +66,10 @@ pub record HearsBelow (link : Link) (list : List Reception) (x : Tx × List Bool
   pub left : column new.left.items j ≡ column old.left.items j ++ map (left_after link list x) (range_with_len 0 r)
   pub erased : column new.erased.items j ≡ column old.erased.items j ++ map (erased_in link x) (range_with_len 0 r)
   pub fixed_is : fixed ≡ list_all (λ s. left_after link list x s == 0) (range_with_len 0 r)
+
+-- the result of the first k transmissions of a round: after how many the block was delivered, and the rows so far
+pub record HasCome (link : Link) (block : List Bool) (round : List (Tx × List Bool)) (k delivered : ℕ)
+    (lefts_before erased_before left erased : List ℕ) : Type 0 where
+  pub delivered_is : delivered ≡ delivered_within link block round k
+  pub left_is : left ≡ lefts_before ++ flat_map (left_row link block round) (range_with_len 0 k)
+  pub erased_is : erased ≡ erased_before ++ flat_map (erased_row link block round) (range_with_len 0 k)
