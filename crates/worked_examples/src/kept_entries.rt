@@ -1,8 +1,7 @@
-//! Tables made of entries that a caller kept, and a table's items by their numbers.
+//! Why entries that a caller kept are refused. Those of a table, and tables made of them, are in `tests/c_library_tests`.
 
-use crate::practice::practice_of_both;
 use nr_graphpick::Graph;
-use nr_shifttable::{EntriesFault, Entry, Item, KeptEntry, Table, TableFault};
+use nr_shifttable::{EntriesFault, Entry, KeptEntry, Table, TableFault};
 use std::alloc::Global;
 use std::test::Fail;
 
@@ -14,73 +13,6 @@ fn kept(graph: u16, row: u16, col: u16, value: u16) -> KeptEntry {
         values: [value; 8],
     };
     KeptEntry { graph, entry }
-}
-
-// An item with one value in all sets.
-fn item(graph: Graph, row: u16, col: u16, value: u16) -> Option<Item> {
-    let entry = Entry {
-        row,
-        col,
-        values: [value; 8],
-    };
-    Some(Item { graph, entry })
-}
-
-// An item of the practice table of both base graphs.
-fn item_of_both(alloc: Global, n: u32) -> Result<Option<Item>, Fail> {
-    Ok(practice_of_both(alloc)?.item(n))
-}
-
-// Base graph 1 has 13, 13, 14 and 13 entries in rows 0 to 3, and base graph 2 has 7, 7, 8 and 7. Each later row has two.
-#[test]
-fn items_by_number(rt: HostRuntime) -> Result<(), Fail> {
-    for (n, want) in [
-        (12, item(Graph::One, 0, 23, 0)),
-        (39, item(Graph::One, 2, 25, 0)),
-        (53, item(Graph::One, 4, 4, 4)),
-        (136, item(Graph::One, 45, 67, 0)),
-        (137, item(Graph::Two, 0, 0, 0)),
-        (156, item(Graph::Two, 2, 10, 1)),
-        (241, item(Graph::Two, 41, 51, 0)),
-        (242, None),
-        (u32::MAX, None),
-    ] {
-        assert!(rt; item_of_both(rt.alloc(), n)? == want, "item {n}");
-    }
-    Ok(())
-}
-
-// All entries of a table, as a caller keeps them.
-fn kept_of(alloc: Global, table: &Table) -> Result<Vec<KeptEntry>, Fail> {
-    let mut entries = Vec::new(alloc);
-    for n in 0..1000 {
-        if let Some(item) = table.item(n) {
-            entries.push(KeptEntry::of(&item))?;
-        }
-    }
-    Ok(entries)
-}
-
-// The entries of the practice table of both base graphs, as a caller keeps them.
-fn kept_of_both(alloc: Global) -> Result<Vec<KeptEntry>, Fail> {
-    let table = practice_of_both(alloc)?;
-    kept_of(alloc, &table)
-}
-
-// An item of the table of entries.
-fn item_of(alloc: Global, entries: &[KeptEntry], n: u32) -> Result<Option<Item>, EntriesFault> {
-    match Table::of_entries(alloc, entries) {
-        Ok(table) => Ok(table.item(n)),
-        Err(fault) => Err(fault),
-    }
-}
-
-#[test]
-fn a_table_is_kept_by_its_entries(rt: HostRuntime) -> Result<(), Fail> {
-    let entries = kept_of_both(rt.alloc())?;
-    let found = item_of(rt.alloc(), &entries, 156);
-    assert!(rt; entries.len() == 242 && found == Ok(item(Graph::Two, 2, 10, 1)));
-    Ok(())
 }
 
 // Why entries are refused.

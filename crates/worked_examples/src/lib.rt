@@ -10,8 +10,6 @@ mod base_graphs;
 #[cfg(test)]
 mod bit_lists;
 #[cfg(test)]
-mod blocks_of_all_sizes;
-#[cfg(test)]
 mod certificates;
 #[cfg(test)]
 mod codewords;
@@ -32,19 +30,13 @@ mod hostile_ends;
 #[cfg(test)]
 mod kept_entries;
 #[cfg(test)]
-mod kept_receivers;
-#[cfg(test)]
 mod lifting_sizes;
-#[cfg(test)]
-mod long_receptions;
 #[cfg(test)]
 mod peeled_words;
 #[cfg(test)]
 mod peeling;
 #[cfg(test)]
 mod practice;
-#[cfg(test)]
-mod processes;
 #[cfg(test)]
 mod receptions;
 #[cfg(test)]
@@ -63,5 +55,3 @@ mod table_sources;
 mod transport_blocks;
 #[cfg(test)]
 mod visit_counts;
-#[cfg(test)]
-mod words_of_all_sizes;

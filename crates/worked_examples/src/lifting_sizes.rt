@@ -2,7 +2,7 @@
 
 use crate::bit_lists::{bits_of, has_octets};
 use nr_bitvec::Bits;
-use nr_lifting::{Lane, add_block, set_of, smallest};
+use nr_lifting::{Lane, add_block, set_of, smallest, tally_block};
 use std::alloc::Global;
 use std::test::Fail;
 
@@ -111,9 +111,21 @@ fn is_met_twice(alloc: Global) -> Result<bool, Fail> {
     Ok(has_octets(&out, &[0b10110_000, 0b10110_000])?)
 }
 
+// Those that the call counts which takes the size when it runs.
+fn met_by_block(alloc: Global) -> Result<[u8; 2], Fail> {
+    let src = bits_of(alloc, &[0b10110_000])?;
+    let mut ones = bits_of(alloc, &[0])?;
+    let mut more = bits_of(alloc, &[0])?;
+    if src.len() == 8 && ones.len() == 8 && more.len() == 8 {
+        tally_block(5, &mut ones, &mut more, &src, 0, 0);
+        tally_block(5, &mut ones, &mut more, &src, 0, 2);
+    }
+    Ok([ones.octet(0), more.octet(0)])
+}
+
 // Bit t of 10110 turned by 2 is bit (t + 2) mod 5; the ones beside the five bits stay. A lane of 72 bits with bit 71 alone,
 // rotated by 7, 8 and 71: by hand, the one comes to place 71 - p. `tally` twice with the same lane: the first time nothing is
-// counted yet, and the second time each one is.
+// counted yet, and the second time each one is. `tally_block` counts the five bits and then the same turned by 2, which are 11010.
 #[test]
 fn lanes_are_turned_and_tallied(rt: HostRuntime) -> Result<(), Fail> {
     assert!(rt; turned_by_2(rt.alloc())? == [0b1_11010_11; 2]);
@@ -125,5 +137,6 @@ fn lanes_are_turned_and_tallied(rt: HostRuntime) -> Result<(), Fail> {
         assert!(rt; has_octets(&last_turned(rt.alloc(), p)?, &want)?);
     }
     assert!(rt; is_met_twice(rt.alloc())?);
+    assert!(rt; met_by_block(rt.alloc())? == [0b11110_000, 0b10010_000]);
     Ok(())
 }

@@ -138,7 +138,7 @@ fn agrees_over(alloc: Global, table: &Table, plan: &Plan, each: bool) -> Result<
 /// The lifting size of so many bits, and whether the checks accept what shows all their words.
 fn agrees(alloc: Global, graph: Graph, bits: u32, each: bool) -> Result<(u32, bool), Fail> {
     let plan = plan(graph, bits)?;
-    let table = made_up_table(alloc, graph, 2)?;
+    let table = made_up_table(alloc, graph)?;
     Ok((plan.z, agrees_over(alloc, &table, &plan, each)?))
 }
 

@@ -94,11 +94,8 @@ fn push_parity(
 /// Pushes the practice table of a base graph. Rows 0 to 3 have the even or the odd information columns. Each row from 4 on
 /// has one information column, rotated by the row's number. The first parity column has the values `first` and `middle` in
 /// rows 0 and 2.
-fn push_practice(
-    cells: &mut Vec<Cell>,
-    graph: Graph,
-    values: (u32, u32),
-) -> Result<(), AllocError> {
+fn push_practice(cells: &mut Vec<Cell>, values: (u32, u32)) -> Result<(), AllocError> {
+    let graph = Graph::Two;
     let n = graph.info_cols().max(1);
     for row in 0..4 {
         for col in 0..n {
@@ -118,25 +115,17 @@ fn push_practice(
 /// The text of the practice table of base graph 2.
 pub(crate) fn practice_text(alloc: Global) -> Result<String, AllocError> {
     let mut cells = Vec::new(alloc);
-    push_practice(&mut cells, Graph::Two, (0, 1))?;
+    push_practice(&mut cells, (0, 1))?;
     text_of(alloc, &cells)
 }
 
 /// The practice table of base graph 2. With `more`, row 1 has column 0 too, rotated by one.
 pub(crate) fn practice(alloc: Global, first: u32, middle: u32, more: bool) -> Result<Table, Fail> {
     let mut cells = Vec::new(alloc);
-    push_practice(&mut cells, Graph::Two, (first, middle))?;
+    push_practice(&mut cells, (first, middle))?;
     if more {
         push(&mut cells, Graph::Two, 1, 0, 1)?;
     }
-    table_of(alloc, &cells)
-}
-
-/// The practice table of both base graphs.
-pub(crate) fn practice_of_both(alloc: Global) -> Result<Table, Fail> {
-    let mut cells = Vec::new(alloc);
-    push_practice(&mut cells, Graph::One, (0, 1))?;
-    push_practice(&mut cells, Graph::Two, (0, 1))?;
     table_of(alloc, &cells)
 }
 
@@ -187,8 +176,8 @@ fn is_unturned(row: u32, k: u32) -> bool {
 }
 
 /// What a made-up table has in a row and a column. Each row has some information columns, and each third row has
-/// one of the first four parity columns. In the first parity column the row `odd` has other values than the other two.
-fn made_up_values(graph: Graph, odd: u32, row: u32, col: u32) -> Option<[u32; 8]> {
+/// one of the first four parity columns. Of the three rows that have the first parity column, row 2 has other values there.
+fn made_up_values(graph: Graph, row: u32, col: u32) -> Option<[u32; 8]> {
     let n = graph.info_cols().max(1);
     if col < n {
         let is_there = col.wrapping_mul(3).wrapping_add(row) % 4 == 0 || row % n == col;
@@ -197,7 +186,7 @@ fn made_up_values(graph: Graph, odd: u32, row: u32, col: u32) -> Option<[u32; 8]
     let k = col - n;
     let spare = if graph == Graph::One { 2 } else { 1 };
     if k == 0 && row < 4 && row != spare {
-        return Some(drawn_values(if row == odd { 99 } else { 98 }, col));
+        return Some(drawn_values(if row == 2 { 99 } else { 98 }, col));
     }
     if is_unturned(row, k) {
         return Some([0; 8]);
@@ -207,11 +196,11 @@ fn made_up_values(graph: Graph, odd: u32, row: u32, col: u32) -> Option<[u32; 8]
 }
 
 /// The entries of a made-up table of a base graph, by rows.
-fn made_up(alloc: Global, graph: Graph, odd: u32) -> Result<Vec<Cell>, AllocError> {
+fn made_up(alloc: Global, graph: Graph) -> Result<Vec<Cell>, AllocError> {
     let mut cells = Vec::new(alloc);
     for row in 0..graph.rows() {
         for col in 0..graph.cols() {
-            if let Some(values) = made_up_values(graph, odd, row, col) {
+            if let Some(values) = made_up_values(graph, row, col) {
                 cells.push(Cell {
                     graph,
                     row,
@@ -225,7 +214,7 @@ fn made_up(alloc: Global, graph: Graph, odd: u32) -> Result<Vec<Cell>, AllocErro
 }
 
 /// The table of these entries.
-pub(crate) fn made_up_table(alloc: Global, graph: Graph, odd: u32) -> Result<Table, Fail> {
-    let cells = made_up(alloc, graph, odd)?;
+pub(crate) fn made_up_table(alloc: Global, graph: Graph) -> Result<Table, Fail> {
+    let cells = made_up(alloc, graph)?;
     table_of(alloc, &cells)
 }

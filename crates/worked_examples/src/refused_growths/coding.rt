@@ -2,9 +2,8 @@
 //! is made again, and returns the true result.
 
 use super::has_memory;
-use crate::practice::{PLAIN, practice};
-use crate::processes::{Answer, begins, left_of_two, takes};
-use crate::receptions::HandedUp;
+use crate::practice::{PLAIN, on_one_layer, practice};
+use crate::receptions::{HandedUp, left_of, told};
 use nr_bitvec::Bits;
 use nr_blockdesk::{DeskFault, Heard, Processes};
 use nr_graphpick::Graph;
@@ -56,10 +55,48 @@ fn selects(rt: HostRuntime) -> Result<(), Fail> {
     Ok(())
 }
 
-/// A process begins with an octet, and hears so many ones that 4 positions are left.
+/// What a call on a process returns: nothing if it begins, or was to receive before it did.
+type Answer = Result<Option<HandedUp>, DeskFault>;
+
+/// What a process returns, if it has begun, to the first bits of version 0.
+fn takes(processes: &mut Processes<'_>, p: u8, places: &[Heard]) -> Answer {
+    if p < 16 && processes.begun(p) {
+        match processes.take(p, &on_one_layer(0, places.len() as u32, 1), places) {
+            Ok(outcome) => Ok(Some(told(&outcome))),
+            Err(fault) => Err(fault),
+        }
+    } else {
+        Ok(None)
+    }
+}
+
+/// A process begins with an octet.
+fn begins(processes: &mut Processes<'_>, p: u8) -> Answer {
+    if p < 16 {
+        processes.begin(p, 8)?;
+    }
+    Ok(None)
+}
+
+/// How many positions below K' of the first code block of a process are left, if it has begun.
+fn left(processes: &Processes<'_>, p: u8) -> Option<u32> {
+    if p < 16 {
+        let receiver = processes.receiver(p)?;
+        Some(left_of(receiver).0)
+    } else {
+        None
+    }
+}
+
+/// How many are left of processes 0 and 1.
+fn left_of_two(processes: &Processes<'_>) -> [Option<u32>; 2] {
+    [left(processes, 0), left(processes, 1)]
+}
+
+/// A process begins, and hears so many ones that 4 positions are left.
 fn begin_one(processes: &mut Processes<'_>, p: u8) -> Answer {
-    match begins(processes, p, 8) {
-        Ok(_) => takes(processes, p, (0, 24), &[Heard::One; 24]),
+    match begins(processes, p) {
+        Ok(_) => takes(processes, p, &[Heard::One; 24]),
         Err(fault) => Err(fault),
     }
 }
@@ -72,12 +109,12 @@ fn begin_two(processes: &mut Processes<'_>) -> Answer {
     }
 }
 
-/// A call on a process: it begins with an octet, or hears a place.
+/// A call on a process: it begins, or hears a place.
 fn calls(processes: &mut Processes<'_>, p: u8, is_begin: bool) -> Answer {
     if is_begin {
-        begins(processes, p, 8)
+        begins(processes, p)
     } else {
-        takes(processes, p, (0, 25), &[Heard::One; 25])
+        takes(processes, p, &[Heard::One; 25])
     }
 }
 
