@@ -27,7 +27,8 @@ pub first_ones : (U : ℕ → Bool) (ps : List ℕ) (p : ℕ) (b : Bool) → 0 <
     → b ≡ nat_lt 0 (count_by U (take 1 ps))
 first_ones U ps p b lt is now = tally_ones U ps 0 p false b lt is refl now
 
-pub first_more : (U : ℕ → Bool) (ps : List ℕ) (b : Bool) → 0 < length ps → b ≡ false → b ≡ nat_lt 1 (count_by U (take 1 ps))
+pub first_more : (U : ℕ → Bool) (ps : List ℕ) (b : Bool) → 0 < length ps → b ≡ false
+    → b ≡ nat_lt 1 (count_by U (take 1 ps))
 first_more U ps b lt now = tally_more U ps 0 (get_or ps 0 0) false false b lt refl refl refl now
 
 -- an entry of a row of blocks is within the word
