@@ -58,10 +58,10 @@ fn selects(rt: HostRuntime) -> Result<(), Fail> {
 /// What a call on a process returns: nothing if it begins, or was to receive before it did.
 type Answer = Result<Option<HandedUp>, DeskFault>;
 
-/// What a process returns, if it has begun, to the first bits of version 0.
-fn takes(processes: &mut Processes<'_>, p: u8, places: &[Heard]) -> Answer {
+/// What a process returns, if it has begun, to the first `g` bits of version 0.
+fn takes(processes: &mut Processes<'_>, p: u8, g: u32, places: &[Heard]) -> Answer {
     if p < 16 && processes.begun(p) {
-        match processes.take(p, &on_one_layer(0, places.len() as u32, 1), places) {
+        match processes.take(p, &on_one_layer(0, g, 1), places) {
             Ok(outcome) => Ok(Some(told(&outcome))),
             Err(fault) => Err(fault),
         }
@@ -96,7 +96,7 @@ fn left_of_two(processes: &Processes<'_>) -> [Option<u32>; 2] {
 /// A process begins, and hears so many ones that 4 positions are left.
 fn begin_one(processes: &mut Processes<'_>, p: u8) -> Answer {
     match begins(processes, p) {
-        Ok(_) => takes(processes, p, &[Heard::One; 24]),
+        Ok(_) => takes(processes, p, 24, &[Heard::One; 24]),
         Err(fault) => Err(fault),
     }
 }
@@ -114,7 +114,7 @@ fn calls(processes: &mut Processes<'_>, p: u8, is_begin: bool) -> Answer {
     if is_begin {
         begins(processes, p)
     } else {
-        takes(processes, p, &[Heard::One; 25])
+        takes(processes, p, 25, &[Heard::One; 25])
     }
 }
 
