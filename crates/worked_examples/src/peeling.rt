@@ -206,9 +206,9 @@ fn shown_at_last(
     peeler: Peeler<'_>,
     plan: &Plan,
     told: Told<'_>,
-) -> Result<Shown, Fail> {
+) -> Result<Shown, AllocError> {
     let mut peeler = peeler;
-    Ok(shown_after(alloc, &mut peeler, plan, told)?)
+    shown_after(alloc, &mut peeler, plan, told)
 }
 
 /// What a new peeler shows after it was given positions.
@@ -219,7 +219,7 @@ pub(crate) fn shown_over(
     told: Told<'_>,
 ) -> Result<Shown, Fail> {
     match new_peeler(alloc, table, plan) {
-        Ok(peeler) => shown_at_last(alloc, peeler, plan, told),
+        Ok(peeler) => Ok(shown_at_last(alloc, peeler, plan, told)?),
         Err(fault) => Err(fault.into()),
     }
 }

@@ -8,7 +8,7 @@ use crate::receptions::{NONE, Places, arrived, receiver_of, take};
 use nr_blockdesk::{Heard, Receiver};
 use nr_graphpick::Graph;
 use nr_ldpcenc::EncFault;
-use nr_segment::plan;
+use nr_segment::{Plan, plan};
 use nr_shifttable::Table;
 use std::alloc::{AllocError, Global};
 use std::test::Fail;
@@ -63,14 +63,16 @@ fn a_receiver_is_stuck_on_seven_columns(rt: HostRuntime) -> Result<(), Fail> {
     Ok(())
 }
 
-/// Why there is no peeler of a code block of 24 bits by base graph 1, over the practice table of base graph 2.
+/// Why there is no peeler.
+fn fault_of(alloc: Global, table: &Table, plan: &Plan) -> Option<EncFault> {
+    new_peeler(alloc, table, plan).err()
+}
+
+/// Why there is none of a code block of 24 bits by base graph 1, over the practice table of base graph 2.
 fn fault_without_graph_1(alloc: Global) -> Result<Option<EncFault>, Fail> {
     let plan = plan(Graph::One, 24)?;
     let table = practice(alloc, 0, 1, false)?;
-    match new_peeler(alloc, &table, &plan) {
-        Ok(_) => Ok(None),
-        Err(fault) => Ok(Some(fault)),
-    }
+    Ok(fault_of(alloc, &table, &plan))
 }
 
 #[test]
