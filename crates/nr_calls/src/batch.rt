@@ -126,8 +126,8 @@ impl Batch {
         self.hear_blocks(link, tx, threshold, &mut generators, listed, &mut arrived)
     }
 
-    // The same of one code block after the other, with generators that begin with the seeds. It stands apart from what makes
-    // them, so that a refusal has nothing to drop.
+    // The same of one code block after the other, with generators that begin with the seeds. `hear` makes them and lends them, so
+    // that an error in here drops nothing.
     fn hear_blocks(
         &mut self,
         link: &Link<'_>,

@@ -203,8 +203,8 @@ fn judged(alloc: Global, blocks: u32, text: &[u8]) -> Result<Schedule, ScheduleF
     read_records(alloc, blocks, text)
 }
 
-// The transmissions, record by record. Each function owns what a refusal lets go of: records and row, then the
-// transmissions so far, then a single one.
+// The transmissions, record by record. The records and the row are owned here, and the transmissions so far in `schedule_in`, so
+// that an error drops few values at a time.
 fn read_records(alloc: Global, blocks: u32, text: &[u8]) -> Result<Schedule, ScheduleFault>
     requires { length text.now < 2 ^ 32 }
     ensures { Gives ScheduleFault.Memory timetable_by result
