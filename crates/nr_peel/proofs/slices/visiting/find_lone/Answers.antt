@@ -1,4 +1,4 @@
-use Rattle.nr_peel.proofs.Common.{rules, arith, ◌∙◌, length-map, nat_tests, row_in}
+use Rattle.nr_peel.proofs.Common.{rules, arith, ◌∙◌, length-map, row_in}
 use Rattle.nr_peel.proofs.SliceFacts.{lone_row, lone_rows, none_lone}
 use Rattle.nr_peel.proofs.slices.visiting.find_lone.Goals as goal
 
